@@ -1,5 +1,5 @@
 -- What digits are worth behind a number that was read before them, and what numeral they make.
-use Rattle.std.proofs.Common.{◌≡◌, ℕ, suc, ◌+◌, ◌*◌, ◌^◌, ◌<◌, ◌≤◌, nat_lt, ◌&&◌, true, false, List, [], ◌∷◌, length, get_or, take, drop, None, Some, sym, ◌∙◌, ap, arith, add-one}
+use Rattle.std.proofs.Common.{◌≡◌, ℕ, suc, ◌+◌, ◌*◌, ◌^◌, ◌<◌, ◌≤◌, nat_lt, ◌&&◌, true, false, List, length, get_or, take, drop, None, Some, sym, ◌∙◌, ap, arith, add-one}
 use Rattle.std.proofs.Math.Nat.{mul-le-mul_left, one-le-pow, pow-suc, pow-zero}
 use Rattle.std.proofs.Math.Seq.{drop-cons}
 use Rattle.std.proofs.lemmas.List.{drop_all, take_all}

@@ -1,4 +1,4 @@
-use Rattle.std.proofs.Common.{◌≡◌, ◌+◌, ◌*◌, ◌<◌, ℕ, List, length, sym, ◌∙◌, ap, arith}
+use Rattle.std.proofs.Common.{◌*◌, ◌<◌, length, sym, ◌∙◌, ap, arith}
 use Rattle.std.proofs.lemmas.Bool.Decides.{nat_tests}
 use Rattle.fd_bytes.proofs.Numerals.{all_digits-more, numeral-other_at, numeral-over, numeral-read, worth-more}
 use Rattle.fd_bytes.proofs.number.read_numeral.Goals as goal

@@ -1,5 +1,5 @@
-use Rattle.std.proofs.Common.{◌≡◌, ◌-◌, ◌≤◌, ◌<◌, ℕ, [], ◌∷◌, ◌++◌, List, length, take, sym, subst, ◌∙◌, ap, arith, length-take}
-use Rattle.fd_bytes.specs.Label.{IsText, cut_version_text, text_of}
+use Rattle.std.proofs.Common.{◌≡◌, ◌-◌, ℕ, [], ◌∷◌, ◌++◌, List, length, take, sym, subst, ◌∙◌, ap, arith, length-take}
+use Rattle.fd_bytes.specs.Label.{IsText, text_of}
 use Rattle.fd_bytes.proofs.Texts.{IsText-push, IsText-take, cut_version_text-long, cut_version_text-short, taken, text_in_front}
 use Rattle.std.proofs.lemmas.List.{take-take}
 use Rattle.fd_bytes.proofs.label.Label.cut_version.Given.{Over}

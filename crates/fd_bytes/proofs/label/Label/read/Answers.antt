@@ -1,4 +1,4 @@
-use Rattle.std.proofs.Common.{◌≡◌, ℕ, List, length, sym, subst, ◌∙◌, ap, arith}
+use Rattle.std.proofs.Common.{◌≡◌, length, sym, subst, ◌∙◌, ap, arith}
 use Rattle.fd_bytes.specs.Label.{IsText, text_of}
 use Rattle.fd_bytes.proofs.Texts.{IsText-text_of, length-text_of, taken}
 use Rattle.fd_bytes.proofs.label.Label.read.Given.{Over}

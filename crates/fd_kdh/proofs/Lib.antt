@@ -1,0 +1,4 @@
+mod Bytes
+pub mod Headers
+mod Parities
+mod Parts
