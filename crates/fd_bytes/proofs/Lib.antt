@@ -2,3 +2,4 @@ mod Archs
 pub mod Fields
 mod Numerals
 pub mod Texts
+mod Vectors

@@ -10,6 +10,8 @@ mod arch;
 mod field;
 mod label;
 mod number;
+#[cfg(test)]
+mod tests;
 
 pub use arch::Arch;
 pub use field::{

@@ -83,7 +83,5 @@ fn label_at<const N: usize>(bytes: &[u8; 512], at: usize) -> Label<N>
     requires { at + N ≤ 512 }
     ensures { result ≡ text_of (slice_range bytes.now at (at + N)) }
 {
-    let mut field = [0; N];
-    field.copy_from_slice(&bytes[at..at + N]);
-    Label::read(&field)
+    Label::read(bytes[at..].first_chunk().unwrap())
 }

@@ -11,6 +11,8 @@ mod header;
 pub mod laws;
 mod page;
 mod parity;
+#[cfg(test)]
+mod tests;
 
 pub use decoding::decode;
 pub use encoding::encode;

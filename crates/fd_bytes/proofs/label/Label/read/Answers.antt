@@ -1,6 +1,7 @@
 use Rattle.std.proofs.Common.{◌≡◌, length, sym, subst, ◌∙◌, ap, arith}
 use Rattle.fd_bytes.specs.Label.{IsText, text_of}
-use Rattle.fd_bytes.proofs.Texts.{IsText-text_of, length-text_of, taken}
+use Rattle.fd_bytes.proofs.Texts.{IsText-text_of, length-text_of}
+use Rattle.fd_bytes.proofs.Vectors.{taken}
 use Rattle.fd_bytes.proofs.label.Label.read.Given.{Over}
 use Rattle.fd_bytes.proofs.label.Label.read.Goals as goal
 
