@@ -1,0 +1,4 @@
+pub mod Outcome
+pub mod Partition
+pub mod Refusal
+pub mod Verdict

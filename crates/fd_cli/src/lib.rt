@@ -1,0 +1,24 @@
+//! The whole program as one call, `crashway`: words in, text and a status out, over a site, a link, a set of ports
+//! and a sink. Its contract says for each command what is printed, which status follows, and what stands afterwards.
+//! It stands on the dump header of FreeBSD's `sys/kerneldump.h` and answers as savecore(8) does.
+#![tactic(auto)]
+
+mod answer;
+mod command;
+mod partition;
+mod refusal;
+mod run;
+pub mod status;
+mod verdict;
+mod word;
+
+pub use answer::Answer;
+pub use command::Command;
+pub use partition::good_partition;
+pub use refusal::Refusal;
+pub use run::crashway;
+pub use verdict::{Verdict, Why, judge};
+pub use word::Word;
+
+#[cfg(test)]
+mod tests;

@@ -1,0 +1,152 @@
+ghost use Rattle.std.specs.Prelude.{◌≡◌, ◌+◌, ◌-◌, ◌*◌, ◌<◌, ◌≤◌, IsTrue, IfOk, IfSome, IfNone, OnErr};
+ghost use Rattle.fd_site.specs.Contents.{Told, part_of, IsSectors};
+ghost use Rattle.fd_site.specs.Fault.{Rose};
+ghost use Rattle.fd_cli.specs.Partition.{is_good};
+ghost use Rattle.fd_cli.specs.Verdict.{judged, taken, reasons, first_of, first_difference, reason_of};
+
+use fd_bytes::Arch;
+use fd_kdh::{CLEARED_MAGIC, Header, HeaderFault, LIVE_MAGIC, decode};
+use fd_site::{Site, SiteFault};
+
+/// Why a partition holds no dump that can be saved, in the order of the tests.
+#[derive(Clone, Copy, Debug, PartialEq, Eq)]
+pub enum Why {
+    /// The trailing sector begins with none of the three magics.
+    NoMagic,
+    /// It holds a text dump.
+    TextDump,
+    /// It holds a dump that was saved and cleared.
+    Cleared,
+    /// The header's version isn't 4.
+    UnknownVersion(u32),
+    /// The exclusive or of the header's words isn't 0 but this.
+    BadParity(u32),
+    /// The dump is compressed in this way.
+    Compressed(u8),
+    /// The dump is encrypted: its key has this size.
+    Encrypted(u32),
+    /// The architecture's name and version are none of the known pairs.
+    UnknownArch,
+    /// The header's block size isn't the partition's.
+    BadBlock(u32),
+    /// The dump's length and its extent differ.
+    LengthDiffers(u64, u64),
+    /// The extent is 0, no multiple of the block, or more than the partition has room for.
+    BadExtent(u64),
+    /// The leading header's 512 bytes differ from the trailing header's, first at this place.
+    Disagree(u16),
+}
+
+impl From<HeaderFault> for Why {
+    ghost from_gives = { λ fault why. why ≡ reason_of fault };
+
+    fn from(fault: HeaderFault) -> Why {
+        match fault {
+            HeaderFault::NoMagic => Why::NoMagic,
+            HeaderFault::TextDump => Why::TextDump,
+            HeaderFault::Cleared => Why::Cleared,
+            HeaderFault::UnknownVersion(version) => Why::UnknownVersion(version),
+            HeaderFault::BadParity(sum) => Why::BadParity(sum),
+        }
+    }
+}
+
+/// What a partition holds.
+#[derive(Drop)]
+pub enum Verdict {
+    /// A dump with this header. It begins at the partition's byte `at`; `sector` is the trailing block's first 512
+    /// bytes.
+    Dump {
+        header: Header,
+        at: u64,
+        sector: [u8; 512],
+    },
+    Refused(Why),
+}
+
+// The trailing sector as it is judged: by force, a cleared header stands for a live one.
+fn take_sector(sector: &[u8; 512], force: bool) -> [u8; 512]
+    ensures { result ≡ taken force sector.now }
+{
+    let mut seen = *sector;
+    if force && sector[..20] == CLEARED_MAGIC[..] {
+        seen[..20].copy_from_slice(&LIVE_MAGIC);
+    }
+    seen
+}
+
+// The first reason against a header's fields.
+fn header_reason(header: &Header, size: u64, block: u32) -> Option<Why>
+    requires { IsTrue (is_good size block) }
+    ensures first { result ≡ first_of (reasons header.now size block) }
+    ensures leading { IfNone result (IsSectors (size - header.now.dumpextent - 2 * block) 512 size) }
+    ensures room { IfNone result (header.now.dumpextent + 2 * block ≤ size) }
+{
+    if header.compression != 0 {
+        return Some(Why::Compressed(header.compression));
+    }
+    if header.dumpkeysize != 0 {
+        return Some(Why::Encrypted(header.dumpkeysize));
+    }
+    if Arch::of_header(header.architecture.bytes(), header.architectureversion).is_none() {
+        return Some(Why::UnknownArch);
+    }
+    if header.blocksize != block {
+        return Some(Why::BadBlock(header.blocksize));
+    }
+    let extent = header.dumpextent;
+    if header.dumplength != extent {
+        return Some(Why::LengthDiffers(header.dumplength, extent));
+    }
+    let need = 65536 + u128::from(extent) + 2 * u128::from(block);
+    if extent == 0 || extent % u64::from(block) != 0 || need > u128::from(size) {
+        return Some(Why::BadExtent(extent));
+    }
+    None
+}
+
+// The first place at which two sectors differ.
+fn difference(a: &[u8; 512], b: &[u8; 512]) -> Option<usize>
+    ensures place { result ≡ first_difference a.now b.now }
+    ensures inside { IfSome result (λ place. place < 512) }
+{
+    a.iter().zip(b.iter()).position(|(x, y)| *x != *y)
+}
+
+/// Judges whether the partition holds a dump, as savecore(8) does, by the headers before and behind it. By `force`
+/// a cleared dump counts as a live one. It reads two sectors, writes nothing and takes no memory.
+pub fn judge<S: Site>(site: &mut S, force: bool) -> Result<Verdict, SiteFault>
+    requires { IsTrue (is_good (S.part_size site.old) (S.block_size site.old)) }
+    ensures verdict { IfOk result (λ v. Told (S.told site.old) (λ c. v ≡ judged (part_of c) (S.block_size site.old) force)) }
+    ensures same { S.told site.new ≡ S.told site.old }
+    ensures size { S.part_size site.new ≡ S.part_size site.old }
+    ensures block { S.block_size site.new ≡ S.block_size site.old }
+    ensures count { S.faults site.old ≤ S.faults site.new }
+    ensures cause { OnErr result (Rose (S.faults site.old) (S.faults site.new)) }
+{
+    let size = site.size();
+    let block = site.block();
+    let trailing = size - u64::from(block);
+    let mut sector = [0; 512];
+    site.read_part(trailing, &mut sector)?;
+    let seen = take_sector(&sector, force);
+    let header = match decode(&seen) {
+        Ok(header) => header,
+        Err(fault) => return Ok(Verdict::Refused(Why::from(fault))),
+    };
+    match header_reason(&header, size, block) {
+        Some(why) => return Ok(Verdict::Refused(why)),
+        None => {}
+    }
+    let at = size - header.dumpextent - 2 * u64::from(block);
+    let mut leading = [0; 512];
+    site.read_part(at, &mut leading)?;
+    match difference(&seen, &leading) {
+        Some(place) => Ok(Verdict::Refused(Why::Disagree(place as u16))),
+        None => Ok(Verdict::Dump {
+            header,
+            at: at + u64::from(block),
+            sector,
+        }),
+    }
+}

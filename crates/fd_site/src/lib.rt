@@ -1,0 +1,21 @@
+//! The outside of the program, as four small traits: a site (one partition and one directory of files), a link
+//! to a server, the ports of a server, and a sink for printed text. Each has a meaning that contracts see, told by
+//! the implementations in memory and not by those over the real thing, and a count of faults: a call answers
+//! `Failed` only where that count rose. What was asked of a site is a journal, of which a machine that stops
+//! leaves a cut.
+#![tactic(auto)]
+
+mod calls;
+mod link;
+mod memory;
+mod no_net;
+mod ports;
+mod sink;
+mod site;
+
+pub use link::Link;
+pub use memory::{MemSink, MemSite, NoMemory};
+pub use no_net::NoNet;
+pub use ports::{Peer, Ports};
+pub use sink::Sink;
+pub use site::{Failed, Site, SiteFault};
