@@ -1,0 +1,9 @@
+pub mod Amd64
+pub mod Amd64Laws
+pub mod Arm64
+pub mod Arm64Laws
+pub mod BitLaws
+pub mod Bits
+pub mod Entry
+pub mod Riscv
+pub mod RiscvLaws
