@@ -1,0 +1,7 @@
+pub mod Positions
+pub mod Rising
+mod LaidRuns
+mod PairRuns
+pub mod LowBits
+pub mod ByteBits
+mod KeptBits
