@@ -5,3 +5,4 @@ mod PairRuns
 pub mod LowBits
 pub mod ByteBits
 mod KeptBits
+mod EmptyStruct

@@ -1,5 +1,5 @@
 -- A bitmap as a list of bits, and as bytes: bit i is bit i mod 8 of byte i / 8, the lowest bit of a byte first.
--- Source: the page bitmap of a minidump, FreeBSD's `sys/sys/minidump.h` and `sys/sys/bitset.h`.
+-- Source: the page bitmap of a minidump, as libkvm reads it (`lib/libkvm/kvm_private.c`, `_kvm_bitmap_set`).
 use Rattle.std.specs.Prelude.{◌≡◌, ℕ, zero, suc, ◌-◌, ◌*◌, ◌/◌, ◌%◌, ◌≤◌, Bool, false, ◌==◌, List, [], ◌∷◌, length, take, drop, replicate, count_by}
 use Rattle.std.specs.List.{flat_map}
 use Rattle.std.specs.Simd.Lanes.{mask_l}

@@ -127,10 +127,7 @@ impl Avail {
     pub fn page_of(&self, bit: u64) -> Option<u64>
         ensures { result ≡ page_of self.now bit }
     {
-        match page_at(self.runs.as_slice(), bit) {
-            Some(page) => Some(page * PAGE_SIZE),
-            None => None,
-        }
+        Some(page_at(self.runs.as_slice(), bit)? * PAGE_SIZE)
     }
 }
 
