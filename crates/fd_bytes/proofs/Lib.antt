@@ -1,0 +1,4 @@
+mod Archs
+pub mod Fields
+mod Numerals
+pub mod Texts

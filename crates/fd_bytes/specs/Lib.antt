@@ -1,0 +1,4 @@
+pub mod Arch
+pub mod Field
+pub mod Label
+pub mod Number
