@@ -1,0 +1,169 @@
+//! The valid image, with its words and pages.
+ghost use Rattle.std.specs.Prelude.{◌≡◌, ◌%◌, Some, None, IsTrue, IfSome, IfOk, IfErr, find, option_copied};
+ghost use Rattle.fd_image.specs.Image.{broken_rule, is_whole_pages, IsValid};
+ghost use Rattle.fd_image.specs.Physical.{has_address, page_in, page_of, segment_of, word_in};
+
+use crate::memory::Memory;
+use crate::parts::{Parts, Seg, Texts, Windows};
+use crate::rules::{BadImage, broken_rule};
+use crate::typed::is_typed;
+use fd_bytes::{Arch, get_u64_le};
+use std::marker::Model;
+
+/// A valid machine image.
+#[derive(Drop)]
+pub struct Image {
+    parts: Parts,
+}
+
+impl Model for Image {
+    ghost use Rattle.fd_image.specs.Image.{MachineImage, IsValid};
+
+    ghost Value = { MachineImage };
+
+    ghost view = { λ image. image.parts };
+
+    ghost invariant = { λ image. IsValid image.parts };
+}
+
+impl Image {
+    /// The image of these parts, or the first of the fourteen rules that they break. A refusal drops the parts.
+    pub fn new(parts: Parts) -> Result<Self, BadImage>
+        ensures valid { IfOk result (λ image. image ≡ parts) }
+        ensures kept { IfOk result (λ _. broken_rule parts ≡ None) }
+        ensures broken { IfErr result (λ bad. broken_rule parts ≡ Some bad) }
+    {
+        match broken_rule(&parts) {
+            Some(bad) => Err(bad),
+            None => {
+                is_typed(&parts);
+                Ok(Image { parts })
+            }
+        }
+    }
+
+    /// The architecture.
+    pub fn arch(&self) -> Arch
+        ensures value { result ≡ self.now.arch }
+        ensures valid { IsValid self.now }
+    {
+        self.parts.arch
+    }
+
+    /// The segments of physical memory, in the order of their addresses.
+    pub fn segs(&self) -> &[Seg]
+        ensures value { result.now ≡ self.now.segs }
+        ensures valid { IsValid self.now }
+    {
+        self.parts.segs.as_slice()
+    }
+
+    /// The ranges of available memory, in order: pairs of a first address and the address past the last.
+    pub fn avail(&self) -> &[(u64, u64)]
+        ensures value { result.now ≡ self.now.avail }
+        ensures valid { IsValid self.now }
+    {
+        self.parts.avail.as_slice()
+    }
+
+    /// The addresses of the wanted pages, in order.
+    pub fn wanted(&self) -> &[u64]
+        ensures value { result.now ≡ self.now.wanted }
+        ensures valid { IsValid self.now }
+    {
+        self.parts.wanted.as_slice()
+    }
+
+    /// The physical address of the top page table.
+    pub fn root(&self) -> u64
+        ensures value { result ≡ self.now.root }
+        ensures valid { IsValid self.now }
+    {
+        self.parts.root
+    }
+
+    /// The kernel window and the direct map.
+    pub fn windows(&self) -> Windows
+        ensures value { result ≡ self.now.windows }
+        ensures valid { IsValid self.now }
+    {
+        self.parts.windows
+    }
+
+    /// The texts and the time.
+    pub fn texts(&self) -> &Texts
+        ensures value { result.now ≡ self.now.texts }
+        ensures valid { IsValid self.now }
+    {
+        &self.parts.texts
+    }
+
+    /// The 4096 bytes of the page of a physical address, or None where the address lies in no segment.
+    #[tactic(auto, unfolding(crate::specs::Physical::page_of))]
+    pub fn page(&self, pa: u64) -> Option<&[u8]>
+        ensures { option_copied result ≡ page_of self.now pa }
+    {
+        match self.segment_of(pa) {
+            Some(seg) => Some(page_in(seg, pa)),
+            None => None,
+        }
+    }
+
+    fn segment_of(&self, pa: u64) -> Option<&Seg>
+        ensures value { option_copied result ≡ segment_of self.now pa }
+        ensures within { IfSome result (λ seg. IsTrue (has_address pa seg.now)) }
+        ensures whole { IfSome result (λ seg. IsTrue (is_whole_pages seg.now)) }
+    {
+        find_segment(self.segs(), pa)
+    }
+}
+
+impl Memory for Image {
+    ghost use Rattle.fd_image.specs.Physical.{word_of};
+
+    ghost word_at = { word_of };
+
+    #[tactic(auto, unfolding(crate::specs::Physical::word_of))]
+    fn word(&self, pa: u64) -> Option<u64> {
+        if pa % 8 != 0 {
+            return None;
+        }
+        match self.segment_of(pa) {
+            Some(seg) => Some(word_in(seg, pa)),
+            None => None,
+        }
+    }
+}
+
+fn find_segment(segs: &[Seg], pa: u64) -> Option<&Seg>
+    ensures { option_copied result ≡ find (has_address pa) segs.now }
+{
+    segs.iter().find(|seg| has_address(seg, pa))
+}
+
+// Whether the segment has a byte at this address.
+fn has_address(seg: &Seg, pa: u64) -> bool
+    ensures { result ≡ has_address pa seg.now }
+{
+    seg.start <= pa && pa - seg.start < seg.bytes.len() as u64
+}
+
+// The page of an address of a segment of whole pages.
+fn page_in(seg: &Seg, pa: u64) -> &[u8]
+    requires within { IsTrue (has_address pa seg.now) }
+    requires whole { IsTrue (is_whole_pages seg.now) }
+    ensures { result.now ≡ page_in seg.now pa }
+{
+    let at = (pa - pa % 4096 - seg.start) as usize;
+    &seg.bytes.as_slice()[at..at + 4096]
+}
+
+// The word at an address of a segment of whole pages.
+fn word_in(seg: &Seg, pa: u64) -> u64
+    requires aligned { pa % 8 ≡ 0 }
+    requires within { IsTrue (has_address pa seg.now) }
+    requires whole { IsTrue (is_whole_pages seg.now) }
+    ensures { result ≡ word_in seg.now pa }
+{
+    get_u64_le(seg.bytes.as_slice(), (pa - seg.start) as usize)
+}
