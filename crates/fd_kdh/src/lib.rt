@@ -8,6 +8,7 @@
 mod decoding;
 mod encoding;
 mod header;
+mod layout;
 pub mod laws;
 mod page;
 mod parity;
