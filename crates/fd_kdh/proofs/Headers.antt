@@ -1,15 +1,19 @@
 -- What is read from the bytes of a header.
-use Rattle.std.proofs.Common.{◌≡◌, ℕ, zero, suc, ◌-◌, ◌<◌, List, [], ◌∷◌, ◌++◌, get_or, length, take, drop, replicate, Ok, refl, sym, subst, ◌∙◌, ap, arith, lit<, append_assoc, length-append}
+use Rattle.std.proofs.Common.{◌≡◌, ℕ, zero, suc, Bool, true, false, cond, ◌-◌, ◌<◌, List, [], ◌∷◌, ◌++◌, get_or, length, take, drop, replicate, Err, Ok, refl, sym, subst, ◌∙◌, ap, arith, lit<, append_assoc, length-append}
 use Rattle.std.proofs.lemmas.List.{append-nil, length-replicate}
+use Rattle.std.proofs.lemmas.Slice.Eq.{bytes_eq-Decides}
 use Rattle.std.specs.Int.{w32, w64, to_be_bytes}
 use Rattle.std.specs.List.{concat}
+use Rattle.std.specs.Str.{bytes_eq}
 use Rattle.fd_bytes.specs.Field.{u32_be_at}
 use Rattle.fd_bytes.specs.Label.{IsText, text_of}
 use Rattle.fd_bytes.proofs.Fields.{u32_be_at-spelled, u64_be_at-spelled}
 use Rattle.fd_bytes.proofs.Texts.{text_of-append}
 use Rattle.fd_kdh.specs.Parity.{words, xor_all}
 use Rattle.fd_kdh.specs.declared.header.Header.{Header}
-use Rattle.fd_kdh.specs.Header.{FitsFields, IsByteText, IsWithinFields, by_magic, by_parity, by_version, decoded, dump_header, fields_before_parity, fields_of, filled, live_magic}
+use Rattle.fd_kdh.specs.declared.header.HeaderFault.{HeaderFault}
+use Rattle.fd_kdh.specs.declared.header.HeaderFault.TheVariants.{Cleared, NoMagic, TextDump}
+use Rattle.fd_kdh.specs.Header.{FitsFields, IsByteText, IsWithinFields, by_magic, by_parity, by_version, cleared_magic, decoded, dump_header, fields_before_parity, fields_of, filled, live_magic, text_magic}
 use Rattle.fd_kdh.proofs.Bytes.{AllBytes, AllBytes-append, AllBytes-be32, AllBytes-be64, AllBytes-concat, AllBytes-from_All, AllBytes-from_test, AllBytes-zeros, EachBytes, xor_all-fits}
 use Rattle.fd_kdh.proofs.Parities.{sealed}
 use Rattle.fd_kdh.proofs.Parts.{AreSized, element, length-parts, part, start}
@@ -113,3 +117,20 @@ module _ (h : Header) (within : IsWithinFields h) where
 pub decoded-dump_header : (h : Header) → IsWithinFields h → decoded (dump_header h) ≡ Ok h
 unfolding dump_header
 decoded-dump_header h within = back h within
+
+-- only bytes that begin with the live magic are a header, and those of a cleared dump are told apart
+pub take-decoded : (bytes : List ℕ) (h : Header) → decoded bytes ≡ Ok h → take 20 bytes ≡ live_magic
+unfolding decoded
+take-decoded bytes h is =
+    by_tests (bytes_eq text_magic (take 20 bytes)) (bytes_eq cleared_magic (take 20 bytes)) (bytes_eq live_magic (take 20 bytes)) refl is
+  where
+    by_tests : (is_text is_cleared is_live : Bool) → is_live ≡ bytes_eq live_magic (take 20 bytes)
+        → cond is_text (Err TextDump) (cond is_cleared (Err Cleared) (cond is_live (by_version (u32_be_at bytes 32) bytes) (Err NoMagic))) ≡ Ok h → take 20 bytes ≡ live_magic
+    by_tests true is_cleared is_live live is = absurd (cc)
+    by_tests false true is_live live is = absurd (cc)
+    by_tests false false false live is = absurd (cc)
+    by_tests false false true live is = sym ((bytes_eq-Decides live_magic (take 20 bytes)).0 (sym live))
+
+pub decoded-cleared : (bytes : List ℕ) → take 20 bytes ≡ cleared_magic → decoded bytes ≡ Err Cleared
+unfolding decoded
+decoded-cleared bytes is = ap (λ magic. by_magic magic bytes) is

@@ -8,8 +8,8 @@
 mod decoding;
 mod encoding;
 mod header;
-mod layout;
 pub mod laws;
+mod layout;
 mod page;
 mod parity;
 #[cfg(test)]
