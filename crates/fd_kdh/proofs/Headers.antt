@@ -1,15 +1,19 @@
 -- What is read from the bytes of a header.
-use Rattle.std.proofs.Common.{◌≡◌, ℕ, zero, suc, ◌-◌, ◌<◌, List, [], ◌∷◌, ◌++◌, get_or, length, take, drop, replicate, Ok, refl, sym, subst, ◌∙◌, ap, arith, lit<, append_assoc, length-append}
+use Rattle.std.proofs.Common.{◌≡◌, ℕ, zero, suc, Bool, true, false, cond, ◌-◌, ◌<◌, List, [], ◌∷◌, ◌++◌, get_or, length, take, drop, replicate, Err, Ok, refl, sym, subst, ◌∙◌, ap, arith, lit<, append_assoc, length-append}
 use Rattle.std.proofs.lemmas.List.{append-nil, length-replicate}
+use Rattle.std.proofs.lemmas.Slice.Eq.{bytes_eq-Decides}
 use Rattle.std.specs.Int.{w32, w64, to_be_bytes}
 use Rattle.std.specs.List.{concat}
+use Rattle.std.specs.Str.{bytes_eq}
 use Rattle.fd_bytes.specs.Field.{u32_be_at}
 use Rattle.fd_bytes.specs.Label.{IsText, text_of}
 use Rattle.fd_bytes.proofs.Fields.{u32_be_at-spelled, u64_be_at-spelled}
 use Rattle.fd_bytes.proofs.Texts.{text_of-append}
 use Rattle.fd_kdh.specs.Parity.{words, xor_all}
 use Rattle.fd_kdh.specs.declared.header.Header.{Header}
-use Rattle.fd_kdh.specs.Header.{FitsFields, IsByteText, IsWithinFields, by_magic, by_parity, by_version, decoded, dump_header, fields_before_parity, fields_of, filled, live_magic}
+use Rattle.fd_kdh.specs.declared.header.HeaderFault.{HeaderFault}
+use Rattle.fd_kdh.specs.declared.header.HeaderFault.TheVariants.{Cleared, NoMagic, TextDump}
+use Rattle.fd_kdh.specs.Header.{FitsFields, IsByteText, IsWithinFields, by_magic, by_parity, by_version, cleared_magic, decoded, dump_header, fields_before_parity, fields_of, filled, live_magic, text_magic}
 use Rattle.fd_kdh.proofs.Bytes.{AllBytes, AllBytes-append, AllBytes-be32, AllBytes-be64, AllBytes-concat, AllBytes-from_All, AllBytes-from_test, AllBytes-zeros, EachBytes, xor_all-fits}
 use Rattle.fd_kdh.proofs.Parities.{sealed}
 use Rattle.fd_kdh.proofs.Parts.{AreSized, element, length-parts, part, start}
@@ -31,112 +35,102 @@ text_of-filled n text is =
 AllBytes-filled : (n : ℕ) (text : List ℕ) → IsByteText text → AllBytes (filled n text)
 AllBytes-filled n text is = AllBytes-append text (replicate (n - length text) 0) (AllBytes-from_All text is.bytes) (AllBytes-zeros (n - length text))
 
--- the fields of a header as parts, and their sizes
-abbrev parts : Header → List (List ℕ)
-parts h =
-    live_magic
-    ∷ filled 12 h.architecture
-    ∷ to_be_bytes w32 4
-    ∷ to_be_bytes w32 h.architectureversion
-    ∷ to_be_bytes w64 h.dumplength
-    ∷ to_be_bytes w64 h.dumptime
-    ∷ to_be_bytes w32 h.dumpkeysize
-    ∷ to_be_bytes w32 h.blocksize
-    ∷ filled 64 h.hostname
-    ∷ filled 192 h.versionstring
-    ∷ filled 175 h.panicstring
-    ∷ (h.compression ∷ [])
-    ∷ to_be_bytes w64 h.dumpextent
-    ∷ to_be_bytes w32 0
-    ∷ []
-
+-- the sizes of the fields
 abbrev sizes : List ℕ
 sizes = 20 ∷ 12 ∷ 4 ∷ 4 ∷ 8 ∷ 8 ∷ 4 ∷ 4 ∷ 64 ∷ 192 ∷ 175 ∷ 1 ∷ 8 ∷ 4 ∷ []
 
-fields-parts : (h : Header) → fields_before_parity h ≡ concat (parts h)
-unfolding fields_before_parity
-fields-parts h = simp (append_assoc, append-nil)
+abbrev parity_word : Header → List ℕ
+parity_word h = to_be_bytes w32 (xor_all (words (concat (fields_before_parity h))))
 
-sized : (h : Header) → FitsFields h → AreSized sizes (parts h)
+sized : (h : Header) → FitsFields h → AreSized sizes (fields_before_parity h)
 sized h fits =
     (refl, (length-filled 12 h.architecture fits.architecture, (refl, (refl, (refl, (refl, (refl, (refl, (length-filled 64 h.hostname fits.hostname, (length-filled 192 h.versionstring fits.versionstring, (length-filled 175 h.panicstring fits.panicstring, (refl, (refl, (refl, tt))))))))))))))
 
 magic_bytes : AllBytes live_magic
 magic_bytes = AllBytes-from_test live_magic refl
 
-each_bytes : (h : Header) → IsWithinFields h → EachBytes (parts h)
+each_bytes : (h : Header) → IsWithinFields h → EachBytes (fields_before_parity h)
 each_bytes h within =
     (magic_bytes, (AllBytes-filled 12 h.architecture within.architecture, (AllBytes-be32 4, (AllBytes-be32 h.architectureversion, (AllBytes-be64 h.dumplength, (AllBytes-be64 h.dumptime, (AllBytes-be32 h.dumpkeysize, (AllBytes-be32 h.blocksize, (AllBytes-filled 64 h.hostname within.hostname, (AllBytes-filled 192 h.versionstring within.versionstring, (AllBytes-filled 175 h.panicstring within.panicstring, ((within.compression, tt), (AllBytes-be64 h.dumpextent, (AllBytes-be32 0, tt))))))))))))))
 
--- all fields but the parity word have 508 bytes
-pub length-fields : (h : Header) → FitsFields h → length (fields_before_parity h) ≡ 508
-length-fields h fits = ap length (fields-parts h) ∙ length-parts sizes (parts h) (sized h fits)
+-- all fields but the parity word have 508 bytes, and a header has 512
+length-fields : (h : Header) → FitsFields h → length (concat (fields_before_parity h)) ≡ 508
+length-fields h fits = length-parts sizes (fields_before_parity h) (sized h fits)
 
--- a header has 512
 pub length-dump_header : (h : Header) → FitsFields h → length (dump_header h) ≡ 512
 unfolding dump_header
-length-dump_header h fits = omega (arith, length-fields h fits, length-append (fields_before_parity h) (to_be_bytes w32 (xor_all (words (fields_before_parity h)))))
-
--- the bytes of a header, as its parts and the parity word
-abbrev parity_word : Header → List ℕ
-parity_word h = to_be_bytes w32 (xor_all (words (fields_before_parity h)))
-
-abbrev joined : Header → List ℕ
-joined h = concat (parts h) ++ parity_word h
-
-dump_header-joined : (h : Header) → dump_header h ≡ joined h
-unfolding dump_header
-dump_header-joined h = ap (λ (l : List ℕ). l ++ parity_word h) (fields-parts h)
+length-dump_header h fits =
+    let front : List ℕ = concat (fields_before_parity h) in
+    omega (arith, length-fields h fits, length-append front (to_be_bytes w32 (xor_all (words front))))
 
 -- it begins with the live magic
 pub take-dump_header : (h : Header) → FitsFields h → take 20 (dump_header h) ≡ live_magic
-take-dump_header h fits = ap (λ (l : List ℕ). take 20 l) (dump_header-joined h) ∙ part sizes (parts h) (parity_word h) 0 (sized h fits) (lit< tt)
+unfolding dump_header
+take-dump_header h fits = part sizes (fields_before_parity h) (parity_word h) 0 (sized h fits) (lit< tt)
 
 -- the exclusive or of its words is 0
 pub xor_all-dump_header : (h : Header) → IsWithinFields h → xor_all (words (dump_header h)) ≡ 0
 unfolding dump_header
 xor_all-dump_header h within =
-    let front : List ℕ = fields_before_parity h in
-    let bytes : AllBytes front = subst AllBytes (sym (fields-parts h)) (AllBytes-concat (parts h) (each_bytes h within)) in
-    sealed front (xor_all (words front)) (omega (arith, length-fields h within.fits)) refl (xor_all-fits front bytes)
+    let front : List ℕ = concat (fields_before_parity h) in
+    sealed front (xor_all (words front)) (omega (arith, length-fields h within.fits)) refl (xor_all-fits front (AllBytes-concat (fields_before_parity h) (each_bytes h within)))
 
 module _ (h : Header) (within : IsWithinFields h) where
-  -- the part of this index stands where the parts before it end
   abbrev k : List ℕ
-  k = joined h
+  k = concat (fields_before_parity h) ++ parity_word h
 
   magic : take 20 k ≡ live_magic
-  magic = part sizes (parts h) (parity_word h) 0 (sized h within.fits) (lit< tt)
+  magic = part sizes (fields_before_parity h) (parity_word h) 0 (sized h within.fits) (lit< tt)
 
   version : u32_be_at k 32 ≡ 4
-  version = u32_be_at-spelled k 32 4 (lit< tt) (sym (part sizes (parts h) (parity_word h) 2 (sized h within.fits) (lit< tt)))
+  version = u32_be_at-spelled k 32 4 (lit< tt) (sym (part sizes (fields_before_parity h) (parity_word h) 2 (sized h within.fits) (lit< tt)))
 
-  text : (n i : ℕ) → i < 14 → (t : List ℕ) → IsByteText t → get_or (parts h) i [] ≡ filled n t → text_of (take (get_or sizes i 0) (drop (start i sizes) k)) ≡ t
-  text n i inside t is field = ap text_of (part sizes (parts h) (parity_word h) i (sized h within.fits) inside ∙ field) ∙ text_of-filled n t is.no_zero
+  text : (n i : ℕ) → i < 14 → (t : List ℕ) → IsByteText t → get_or (fields_before_parity h) i [] ≡ filled n t → text_of (take (get_or sizes i 0) (drop (start i sizes) k)) ≡ t
+  text n i inside t is field = ap text_of (part sizes (fields_before_parity h) (parity_word h) i (sized h within.fits) inside ∙ field) ∙ text_of-filled n t is.no_zero
 
   -- each field holds what the header has there
   same : fields_of k ≡ h
   unfolding fields_of
   same = λ i. record {
     architecture = text 12 1 (lit< tt) h.architecture within.architecture refl i;
-    architectureversion = u32_be_at-spelled k 36 h.architectureversion within.architectureversion (sym (part sizes (parts h) (parity_word h) 3 (sized h within.fits) (lit< tt))) i;
-    dumplength = u64_be_at-spelled k 40 h.dumplength within.dumplength (sym (part sizes (parts h) (parity_word h) 4 (sized h within.fits) (lit< tt))) i;
-    dumptime = u64_be_at-spelled k 48 h.dumptime within.dumptime (sym (part sizes (parts h) (parity_word h) 5 (sized h within.fits) (lit< tt))) i;
-    dumpkeysize = u32_be_at-spelled k 56 h.dumpkeysize within.dumpkeysize (sym (part sizes (parts h) (parity_word h) 6 (sized h within.fits) (lit< tt))) i;
-    blocksize = u32_be_at-spelled k 60 h.blocksize within.blocksize (sym (part sizes (parts h) (parity_word h) 7 (sized h within.fits) (lit< tt))) i;
+    architectureversion = u32_be_at-spelled k 36 h.architectureversion within.architectureversion (sym (part sizes (fields_before_parity h) (parity_word h) 3 (sized h within.fits) (lit< tt))) i;
+    dumplength = u64_be_at-spelled k 40 h.dumplength within.dumplength (sym (part sizes (fields_before_parity h) (parity_word h) 4 (sized h within.fits) (lit< tt))) i;
+    dumptime = u64_be_at-spelled k 48 h.dumptime within.dumptime (sym (part sizes (fields_before_parity h) (parity_word h) 5 (sized h within.fits) (lit< tt))) i;
+    dumpkeysize = u32_be_at-spelled k 56 h.dumpkeysize within.dumpkeysize (sym (part sizes (fields_before_parity h) (parity_word h) 6 (sized h within.fits) (lit< tt))) i;
+    blocksize = u32_be_at-spelled k 60 h.blocksize within.blocksize (sym (part sizes (fields_before_parity h) (parity_word h) 7 (sized h within.fits) (lit< tt))) i;
     hostname = text 64 8 (lit< tt) h.hostname within.hostname refl i;
     versionstring = text 192 9 (lit< tt) h.versionstring within.versionstring refl i;
     panicstring = text 175 10 (lit< tt) h.panicstring within.panicstring refl i;
-    compression = element k 495 h.compression (part sizes (parts h) (parity_word h) 11 (sized h within.fits) (lit< tt)) i;
-    dumpextent = u64_be_at-spelled k 496 h.dumpextent within.dumpextent (sym (part sizes (parts h) (parity_word h) 12 (sized h within.fits) (lit< tt))) i;
+    compression = element k 495 h.compression (part sizes (fields_before_parity h) (parity_word h) 11 (sized h within.fits) (lit< tt)) i;
+    dumpextent = u64_be_at-spelled k 496 h.dumpextent within.dumpextent (sym (part sizes (fields_before_parity h) (parity_word h) 12 (sized h within.fits) (lit< tt))) i;
   }
 
-  decoded-joined : decoded k ≡ Ok h
+  zero_sum : xor_all (words k) ≡ 0
+  unfolding dump_header
+  zero_sum = xor_all-dump_header h within
+
+  back : decoded k ≡ Ok h
   unfolding decoded
-  decoded-joined =
-      let zero_sum : xor_all (words k) ≡ 0 = ap (λ (l : List ℕ). xor_all (words l)) (sym (dump_header-joined h)) ∙ xor_all-dump_header h within in
-      ap (λ m. by_magic m k) magic ∙ ap (λ v. by_version v k) version ∙ ap (λ s. by_parity s k) zero_sum ∙ ap (λ d. Ok d) same
+  back = ap (λ m. by_magic m k) magic ∙ ap (λ v. by_version v k) version ∙ ap (λ s. by_parity s k) zero_sum ∙ ap (λ d. Ok d) same
 
 -- a header is read back from its bytes
 pub decoded-dump_header : (h : Header) → IsWithinFields h → decoded (dump_header h) ≡ Ok h
-decoded-dump_header h within = ap decoded (dump_header-joined h) ∙ decoded-joined h within
+unfolding dump_header
+decoded-dump_header h within = back h within
+
+-- only bytes that begin with the live magic are a header, and those of a cleared dump are told apart
+pub take-decoded : (bytes : List ℕ) (h : Header) → decoded bytes ≡ Ok h → take 20 bytes ≡ live_magic
+unfolding decoded
+take-decoded bytes h is =
+    by_tests (bytes_eq text_magic (take 20 bytes)) (bytes_eq cleared_magic (take 20 bytes)) (bytes_eq live_magic (take 20 bytes)) refl is
+  where
+    by_tests : (is_text is_cleared is_live : Bool) → is_live ≡ bytes_eq live_magic (take 20 bytes)
+        → cond is_text (Err TextDump) (cond is_cleared (Err Cleared) (cond is_live (by_version (u32_be_at bytes 32) bytes) (Err NoMagic))) ≡ Ok h → take 20 bytes ≡ live_magic
+    by_tests true is_cleared is_live live is = absurd (cc)
+    by_tests false true is_live live is = absurd (cc)
+    by_tests false false false live is = absurd (cc)
+    by_tests false false true live is = sym ((bytes_eq-Decides live_magic (take 20 bytes)).0 (sym live))
+
+pub decoded-cleared : (bytes : List ℕ) → take 20 bytes ≡ cleared_magic → decoded bytes ≡ Err Cleared
+unfolding decoded
+decoded-cleared bytes is = ap (λ magic. by_magic magic bytes) is

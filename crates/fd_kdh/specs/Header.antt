@@ -1,6 +1,7 @@
 -- The header of a kernel dump, version 4, as it is written and read (sys/kerneldump.h).
 use Rattle.std.specs.Prelude.{ℕ, ◌-◌, ◌<◌, ◌^◌, ◌==◌, List, [], ◌∷◌, ◌++◌, length, replicate, slice_index, codes, All, if◌then◌else◌, Result, Ok, Err}
 use Rattle.std.specs.Int.{w32, w64, to_be_bytes}
+use Rattle.std.specs.List.{concat}
 use Rattle.std.specs.Str.{bytes_eq}
 use Rattle.fd_bytes.specs.Field.{u32_be_at, u64_be_at}
 use Rattle.fd_bytes.specs.Label.{IsText, text_of}
@@ -26,31 +27,32 @@ text_magic = filled (size_of Magic) (codes "FreeBSD Text Dump")
 abbrev pub cleared_magic : List ℕ
 cleared_magic = filled (size_of Magic) (codes "Cleared Kernel Dump")
 
--- all fields but the parity word, one after the other
-unfoldable pub fields_before_parity : Header → List ℕ
+-- the fields in their order, all but the parity word
+abbrev pub fields_before_parity : Header → List (List ℕ)
 fields_before_parity h =
     live_magic
-    ++ filled (size_of Architecture) h.architecture
-    ++ to_be_bytes w32 4
-    ++ to_be_bytes w32 h.architectureversion
-    ++ to_be_bytes w64 h.dumplength
-    ++ to_be_bytes w64 h.dumptime
-    ++ to_be_bytes w32 h.dumpkeysize
-    ++ to_be_bytes w32 h.blocksize
-    ++ filled (size_of HostName) h.hostname
-    ++ filled (size_of VersionString) h.versionstring
-    ++ filled (size_of PanicString) h.panicstring
-    ++ h.compression ∷ []
-    ++ to_be_bytes w64 h.dumpextent
-    ++ to_be_bytes w32 0
+    ∷ filled (size_of Architecture) h.architecture
+    ∷ to_be_bytes w32 4
+    ∷ to_be_bytes w32 h.architectureversion
+    ∷ to_be_bytes w64 h.dumplength
+    ∷ to_be_bytes w64 h.dumptime
+    ∷ to_be_bytes w32 h.dumpkeysize
+    ∷ to_be_bytes w32 h.blocksize
+    ∷ filled (size_of HostName) h.hostname
+    ∷ filled (size_of VersionString) h.versionstring
+    ∷ filled (size_of PanicString) h.panicstring
+    ∷ (h.compression ∷ [])
+    ∷ to_be_bytes w64 h.dumpextent
+    ∷ to_be_bytes w32 0
+    ∷ []
 
--- and then the word that makes the exclusive or of all words 0
+-- bytes, and the word that makes the exclusive or of all words 0
 abbrev pub with_parity : List ℕ → List ℕ
-with_parity front = front ++ to_be_bytes w32 (xor_all (words front))
+with_parity bytes = bytes ++ to_be_bytes w32 (xor_all (words bytes))
 
 -- the bytes of a header
 unfoldable pub dump_header : Header → List ℕ
-dump_header h = with_parity (fields_before_parity h)
+dump_header h = with_parity (concat (fields_before_parity h))
 
 -- what the fields hold, whatever else the bytes are
 unfoldable pub fields_of : List ℕ → Header
@@ -77,9 +79,9 @@ by_version version bytes = if version == 4 then by_parity (xor_all (words bytes)
 
 abbrev pub by_magic : List ℕ → List ℕ → Result Header HeaderFault
 by_magic magic bytes =
-    if bytes_eq magic text_magic then Err TextDump
-    else (if bytes_eq magic cleared_magic then Err Cleared
-    else (if bytes_eq magic live_magic then by_version (u32_be_at bytes (start_of Version)) bytes
+    if bytes_eq text_magic magic then Err TextDump
+    else (if bytes_eq cleared_magic magic then Err Cleared
+    else (if bytes_eq live_magic magic then by_version (u32_be_at bytes (start_of Version)) bytes
     else Err NoMagic))
 
 -- the header that the bytes are, or their first fault

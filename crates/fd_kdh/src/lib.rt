@@ -9,6 +9,7 @@ mod decoding;
 mod encoding;
 mod header;
 pub mod laws;
+mod layout;
 mod page;
 mod parity;
 #[cfg(test)]

@@ -1,3 +1,5 @@
+ghost use Rattle.fd_kdh.specs.Header.{FitsFields};
+
 use super::*;
 use fd_bytes::Label;
 use std::process::Abort;
@@ -18,7 +20,9 @@ const SPELLED: [(usize, &[u8]); 12] = [
     (508, b"\x0d\x4f\xe5\x38"),
 ];
 
-fn header() -> Header {
+fn header() -> Header
+    ensures { FitsFields result }
+{
     Header {
         architecture: Label::cut(b"riscv64"),
         architectureversion: 1,

@@ -1,5 +1,7 @@
-use Rattle.std.proofs.Common.{◌≡◌, [], ◌∷◌, ◌++◌, List, ℕ, ◌∙◌, ap}
+use Rattle.std.proofs.Common.{◌≡◌, [], ◌∷◌, ◌++◌, List, ℕ, ◌∙◌, ap, append_assoc}
+use Rattle.std.proofs.lemmas.List.{append-nil}
 use Rattle.std.specs.Int.{w32, w64, to_be_bytes}
+use Rattle.std.specs.List.{concat}
 use Rattle.fd_kdh.specs.Header.{IsWithinFields, decoded, dump_header, fields_before_parity, filled, live_magic}
 use Rattle.fd_kdh.specs.Parity.{words, xor_all}
 use Rattle.fd_kdh.proofs.Headers.{decoded-dump_header, xor_all-dump_header}
@@ -10,8 +12,7 @@ onto : (old new part front : List ℕ) → new ≡ old ++ part → old ≡ front
 onto old new part front is was = is ∙ ap (λ (l : List ℕ). l ++ part) was
 
 -- the page before the parity word is put
-filled_page : (c : goal.After-into_bytes) → c.put_u32-5.new.self ≡ fields_before_parity c.args.header.now
-unfolding fields_before_parity
+filled_page : (c : goal.After-into_bytes) → c.put_u32-5.new.self ≡ concat (fields_before_parity c.args.header.now)
 filled_page c =
     let h = c.args.header.now in
     let s0 : c.put.new.self ≡ live_magic = onto _ _ live_magic [] c.put.ensures.bytes c.new-page.ensures in
@@ -27,7 +28,8 @@ filled_page c =
     let s10 = onto _ _ (filled 175 h.panicstring) _ c.put_label-4.ensures.bytes s9 in
     let s11 = onto _ _ (h.compression ∷ []) _ c.put_u8.ensures.bytes s10 in
     let s12 = onto _ _ (to_be_bytes w64 h.dumpextent) _ c.put_u64-3.ensures.bytes s11 in
-    onto _ _ (to_be_bytes w32 0) _ c.put_u32-5.ensures.bytes s12
+    let s13 = onto _ _ (to_be_bytes w32 0) _ c.put_u32-5.ensures.bytes s12 in
+    s13 ∙ simp (append_assoc, append-nil)
 
 -- what the calls that put the fields tell of them
 within : (c : goal.After-into_bytes) → IsWithinFields c.args.header.now
@@ -50,7 +52,7 @@ within c = record {
 all : (c : goal.After-into_bytes) → c.into_bytes.result ≡ dump_header c.args.header.now
 unfolding dump_header
 all c =
-    let sum : c.xor_of_words-sum.result ≡ xor_all (words (fields_before_parity c.args.header.now)) =
+    let sum : c.xor_of_words-sum.result ≡ xor_all (words (concat (fields_before_parity c.args.header.now))) =
     c.xor_of_words-sum.ensures ∙ ap (λ (l : List ℕ). xor_all (words l)) (c.filled.ensures ∙ filled_page c) in
     c.into_bytes.ensures ∙ c.put_u32-6.ensures.bytes ∙ (λ i. filled_page c i ++ to_be_bytes w32 (sum i))
 

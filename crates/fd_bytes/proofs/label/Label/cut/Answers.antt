@@ -1,4 +1,4 @@
-use Rattle.std.proofs.Common.{◌≡◌, ◌-◌, List, ℕ, length, take, sym, subst, ◌∙◌, ap, arith, length-take}
+use Rattle.std.proofs.Common.{◌≡◌, ◌-◌, ℕ, length, take, sym, subst, ◌∙◌, ap, arith, length-take}
 use Rattle.fd_bytes.specs.Label.{IsText, text_of}
 use Rattle.fd_bytes.proofs.Texts.{IsText-take, text_in_front}
 use Rattle.fd_bytes.proofs.Vectors.{taken}
