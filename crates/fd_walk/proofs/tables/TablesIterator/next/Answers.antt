@@ -1,0 +1,14 @@
+-- Where no addresses are left, no tables are.
+use Rattle.std.proofs.Common.{◌≡◌, ◌∙◌, [], ap, sym, arith}
+use Rattle.fd_walk.specs.Tables.{tables_of}
+use Rattle.fd_walk.specs.Ranges.{last_tables_in}
+use Rattle.fd_walk.proofs.RangeParts.{last_tables_in-none}
+use Rattle.fd_walk.proofs.tables.TablesIterator.next.Goals as goal
+
+pub returns-clause-steps : goal.returns-clause-steps
+returns-clause-steps g c =
+    let rest = c.loop-self.self-inside in
+    let t = tables_of (g.M.Memory.word_at rest.mem.now) g.E.Entry.kind_of g.row.LEVELS rest.root in
+    let none : rest.left ≡ 0 = omega arith in
+    let nothing : last_tables_in t rest.at rest.left ≡ [] = ap (λ n. last_tables_in t rest.at n) none ∙ last_tables_in-none t rest.at in
+    (sym c.self.view_is ∙ sym c.loop-self.invariant.same ∙ nothing, nothing)

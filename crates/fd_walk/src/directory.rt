@@ -1,0 +1,70 @@
+//! The page directory of a minidump.
+ghost use Rattle.std.specs.Prelude.{◌≡◌, ◌≤◌, ◌%◌, ◌+◌, ◌*◌, ◌^◌, ◌++◌, take};
+ghost use Rattle.std.specs.Int.{w64, to_le_bytes};
+ghost use Rattle.fd_pte.specs.Entry.{bytes_under};
+ghost use Rattle.fd_walk.specs.Tables.{tables_of};
+ghost use Rattle.fd_walk.specs.Directory.{directory_form, directory_entry, directory_bytes};
+
+use crate::address::bytes_under;
+use crate::walker::Walker;
+use fd_image::Memory;
+use fd_pte::Entry;
+
+impl<E: Entry, const LEVELS: usize> Walker<E, LEVELS> {
+    /// Writes the `index`-th page of the directory of the addresses from `kernbase` on: 512 entries
+    /// of directory height, eight bytes each, the lowest byte first. A larger leaf is written as an
+    /// entry for each of its units; where nothing is mapped the entry is as it is in the tables, or 0.
+    pub fn directory_page<M: Memory>(
+        mem: &M,
+        root: u64,
+        kernbase: u64,
+        index: u64,
+        out: &mut [u8; 4096],
+    )
+        requires aligned { root % 4096 ≡ 0 }
+        requires some_levels { 2 ≤ LEVELS }
+        requires most_levels { LEVELS ≤ 4 }
+        requires end { kernbase + (index + 1) * (512 * bytes_under E.DIRECTORY_HEIGHT) ≤ 2 ^ 64 }
+        ensures { let tables = tables_of (M.word_at mem.now) E.kind_of LEVELS root in
+            let form = directory_form E.DIRECTORY_HEIGHT E.expansion in
+            let first = kernbase + index * (512 * bytes_under E.DIRECTORY_HEIGHT) in
+            out.new ≡ directory_bytes tables form first 512 }
+    {
+        let size = bytes_under(E::DIRECTORY_HEIGHT);
+        let first = kernbase + index * (512 * size);
+        for unit in 0..512 {
+            let entry = Self::directory_entry(mem, root, first + unit * size);
+            put_entry(out, 8 * unit as usize, entry);
+        }
+    }
+
+    /// The directory's entry for the unit that begins at `va`.
+    fn directory_entry<M: Memory>(mem: &M, root: u64, va: u64) -> u64
+        requires aligned { root % 4096 ≡ 0 }
+        requires some_levels { 2 ≤ LEVELS }
+        requires most_levels { LEVELS ≤ 4 }
+        ensures { let tables = tables_of (M.word_at mem.now) E.kind_of LEVELS root in
+            let form = directory_form E.DIRECTORY_HEIGHT E.expansion in
+            result ≡ directory_entry tables form va }
+    {
+        let reached = Self::descend(mem, root, va, E::DIRECTORY_HEIGHT);
+        if reached.height == E::DIRECTORY_HEIGHT {
+            return reached.entry.unwrap_or(0);
+        }
+        match Self::leaf(reached.entry, reached.height) {
+            Some(leaf) => {
+                let unit = va % bytes_under(reached.height) / bytes_under(E::DIRECTORY_HEIGHT);
+                E::expand(leaf.bits, reached.height, unit)
+            }
+            None => 0,
+        }
+    }
+}
+
+/// Writes an entry at a place, after those before it.
+fn put_entry(out: &mut [u8; 4096], at: usize, entry: u64)
+    requires { at + 8 ≤ 4096 }
+    ensures { take (at + 8) out.new ≡ take at out.old ++ to_le_bytes w64 entry }
+{
+    out[at..at + 8].copy_from_slice(&entry.to_le_bytes());
+}

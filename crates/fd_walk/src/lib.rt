@@ -1,0 +1,20 @@
+//! Walks of page tables: what an address is mapped to, the pages of a minidump's directory, and the
+//! leaves and last-level tables of a range. One body serves every architecture of `fd_pte` over any
+//! `Memory`; no call takes memory.
+#![tactic(auto)]
+
+mod address;
+mod directory;
+mod leaf;
+mod leaves;
+mod step;
+mod tables;
+#[cfg(test)]
+mod tests;
+mod walker;
+
+pub use leaf::Leaf;
+pub use leaves::Leaves;
+pub use step::Step;
+pub use tables::Tables;
+pub use walker::Walker;

@@ -1,0 +1,125 @@
+//! Walks from the topmost table down.
+ghost use Rattle.std.specs.Prelude.{◌≡◌, ◌≤◌, ◌<◌, ◌%◌, ℕ, Option, Some, None, MatchOption, IfSome, ◌^◌};
+ghost use Rattle.fd_pte.specs.Entry.{IsPlaced};
+ghost use Rattle.fd_walk.specs.Tables.{tables_of, kind_of_entry};
+ghost use Rattle.fd_walk.specs.Descent.{IsReached};
+ghost use Rattle.fd_walk.specs.Leaf.{leaf_of_entry};
+ghost use Rattle.fd_walk.specs.Step.{step_at};
+
+use crate::address::{bytes_under, index_at};
+use crate::step::Step;
+use fd_image::Memory;
+use fd_pte::{Entry, Kind};
+use std::marker::PhantomData;
+
+/// Walks of page tables with entries of the architecture `E` in tables of `LEVELS` levels: 4 for
+/// amd64 and arm64, 3 or 4 for RISC-V.
+///
+/// Of an address only the index bits are used. A table outside the memory has no entries.
+pub struct Walker<E: Entry, const LEVELS: usize> {
+    entry: PhantomData<E>,
+}
+
+/// The lowest entry that a walk came to, with the table that holds it.
+#[derive(Clone, Copy)]
+pub(crate) struct Reached {
+    pub(crate) height: u32,
+    pub(crate) table: u64,
+    pub(crate) entry: Option<u64>,
+}
+
+/// A leaf's bits, and the physical address of the memory that it maps.
+#[derive(Clone, Copy)]
+pub(crate) struct FoundLeaf {
+    pub(crate) bits: u64,
+    pub(crate) address: u64,
+}
+
+impl<E: Entry, const LEVELS: usize> Walker<E, LEVELS> {
+    /// What the virtual address `va` is mapped to by the topmost table at `root`.
+    pub fn lookup<M: Memory>(mem: &M, root: u64, va: u64) -> Step
+        requires aligned { root % 4096 ≡ 0 }
+        requires some_levels { 2 ≤ LEVELS }
+        requires most_levels { LEVELS ≤ 4 }
+        ensures { result ≡ step_at (tables_of (M.word_at mem.now) E.kind_of LEVELS root) va }
+    {
+        let reached = Self::descend(mem, root, va, 0);
+        let table = (reached.height == 0).then_some(reached.table);
+        match Self::leaf(reached.entry, reached.height) {
+            Some(leaf) => {
+                let size = bytes_under(reached.height);
+                Step::Leaf {
+                    start: va - va % size,
+                    pa: leaf.address,
+                    size,
+                    bits: leaf.bits,
+                    table,
+                }
+            }
+            None => Step::Absent { table },
+        }
+    }
+
+    /// Walks down to the entry of height `lowest`, or to the first above it that names no table.
+    pub(crate) fn descend<M: Memory>(mem: &M, root: u64, va: u64, lowest: u32) -> Reached
+        requires aligned { root % 4096 ≡ 0 }
+        requires lowest { lowest < LEVELS }
+        requires most_levels { LEVELS ≤ 4 }
+        ensures { let tables = tables_of (M.word_at mem.now) E.kind_of LEVELS root in
+            IsReached tables lowest va result.height result.table result.entry }
+    {
+        let mut height = LEVELS as u32 - 1;
+        let mut table = root;
+        let mut entry = mem.word(table + 8 * index_at(va, height));
+        while height > lowest {
+            match Self::kind(entry, height) {
+                Kind::Table(below) => {
+                    table = below;
+                    height -= 1;
+                    entry = mem.word(table + 8 * index_at(va, height));
+                }
+                _ => {
+                    return Reached {
+                        height,
+                        table,
+                        entry,
+                    };
+                }
+            }
+        }
+        Reached {
+            height,
+            table,
+            entry,
+        }
+    }
+
+    /// The kind of an entry, absent where there is none.
+    pub(crate) fn kind(entry: Option<u64>, height: u32) -> Kind
+        requires { height ≤ 3 }
+        ensures kind { result ≡ kind_of_entry E.kind_of height entry }
+        ensures placed { IsPlaced height result }
+    {
+        match entry {
+            Some(bits) => E::kind(bits, height),
+            None => Kind::Absent,
+        }
+    }
+
+    /// The leaf of an entry, if it is one.
+    pub(crate) fn leaf(entry: Option<u64>, height: u32) -> Option<FoundLeaf>
+        requires { height ≤ 3 }
+        ensures leaf { let leaf = leaf_of_entry E.kind_of height entry in
+            MatchOption result (leaf ≡ None)
+            (λ found. leaf ≡ Some (record { height = height; bits = found.bits; address = found.address })) }
+        ensures short { IfSome result (λ found. found.address < 2 ^ 56) }
+    {
+        match entry {
+            Some(bits) => match E::kind(bits, height) {
+                Kind::Leaf(address) => Some(FoundLeaf { bits, address }),
+                _ => None,
+            },
+            None => None,
+        }
+    }
+}
