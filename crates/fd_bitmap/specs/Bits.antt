@@ -1,8 +1,7 @@
 -- A bitmap as a list of bits, and as bytes: bit i is bit i mod 8 of byte i / 8, the lowest bit of a byte first.
 -- Source: the page bitmap of a minidump, as libkvm reads it (`lib/libkvm/kvm_private.c`, `_kvm_bitmap_set`).
-use Rattle.std.specs.Prelude.{◌≡◌, ℕ, zero, suc, ◌-◌, ◌*◌, ◌/◌, ◌%◌, ◌≤◌, Bool, false, ◌==◌, List, [], ◌∷◌, length, take, drop, replicate, count_by}
+use Rattle.std.specs.Prelude.{◌≡◌, ℕ, zero, suc, ◌+◌, ◌-◌, ◌*◌, ◌/◌, ◌%◌, ◌≤◌, Bool, false, ◌==◌, if◌then◌else◌, List, [], ◌∷◌, length, take, drop, replicate, count_by}
 use Rattle.std.specs.List.{flat_map}
-use Rattle.std.specs.Simd.Lanes.{mask_l}
 
 -- the lowest bits of a number, so many, the lowest first
 unfoldable pub low_bits : ℕ → ℕ → List Bool
@@ -11,7 +10,8 @@ low_bits (suc count) number = (number % 2 == 1) ∷ low_bits count (number / 2)
 
 -- the number with these bits, the lowest first
 abbrev pub number_of : List Bool → ℕ
-number_of bits = mask_l bits
+number_of [] = 0
+number_of (bit ∷ bits) = (if bit then 1 else 0) + 2 * number_of bits
 
 -- the bits of all bytes, in order
 abbrev pub bits_of : List ℕ → List Bool

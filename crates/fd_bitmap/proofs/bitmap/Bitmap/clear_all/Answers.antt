@@ -1,3 +1,4 @@
+-- Zero bytes have clear bits alone.
 use Rattle.std.proofs.Common.{◌≡◌, ℕ, false, List, length, replicate, take, sym, ◌∙◌, ap, arith}
 use Rattle.fd_bitmap.specs.Bits.{bits_of}
 use Rattle.fd_bitmap.proofs.KeptBits.{length-kept, IsKept-zeros, zeros-kept}

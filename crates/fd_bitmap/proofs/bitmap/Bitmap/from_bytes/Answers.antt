@@ -1,3 +1,4 @@
+-- Of bytes that were given, all bits count.
 use Rattle.std.proofs.Common.{◌≡◌, ℕ, ◌*◌, List, length, take, ◌∙◌, ap, arith}
 use Rattle.fd_bitmap.specs.Bits.{bits_of}
 use Rattle.fd_bitmap.proofs.KeptBits.{IsKept-whole, whole-kept}

@@ -1,3 +1,4 @@
+-- Zero bytes have clear bits alone.
 use Rattle.std.proofs.Common.{◌≡◌, ℕ, List, replicate, take, ◌∙◌, ap, arith}
 use Rattle.fd_bitmap.specs.Bits.{bits_of}
 use Rattle.fd_bitmap.proofs.KeptBits.{IsKept-zeros, zeros-kept}
