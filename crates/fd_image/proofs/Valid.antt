@@ -1,5 +1,5 @@
 -- What the validity of an image says of each of its fields.
-use Rattle.std.proofs.Common.{◌≡◌, ℕ, suc, ◌+◌, ◌<◌, ◌≤◌, Bool, true, false, not, cond, ltb, find, List, [], ◌∷◌, length, get_or, Option, Some, None, Bor, IsTrue, IfSome, ap, sym, ◌∙◌, refl, arith}
+use Rattle.std.proofs.Common.{◌≡◌, ℕ, suc, ◌<◌, ◌≤◌, Bool, true, false, not, cond, find, List, [], ◌∷◌, length, get_or, Option, Some, None, Bor, IsTrue, IfSome, ap, sym, ◌∙◌, refl, arith}
 use Rattle.std.specs.List.{position_or_len}
 use Rattle.std.specs.Option.{option_copied}
 use Rattle.std.proofs.lemmas.List.Sums.{fails_before_first}

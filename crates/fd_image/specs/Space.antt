@@ -1,6 +1,6 @@
 -- What the address spaces of the architectures allow: AMD64 long mode with four levels of tables, Arm's 4 KiB
 -- granule with four levels, RISC-V Sv39. The unit and the greatest size of a kernel window are this project's own.
-use Rattle.std.specs.Prelude.{ℕ, ◌^◌, true, false}
+use Rattle.std.specs.Prelude.{◌^◌, true, false}
 use Rattle.fd_bytes.specs.declared.arch.Arch.{Arch}
 use Rattle.fd_bytes.specs.declared.arch.Arch.TheVariants.{Amd64, Arm64, Riscv}
 use Rattle.fd_image.specs.declared.space.Space.{Space}

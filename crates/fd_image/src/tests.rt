@@ -24,84 +24,101 @@ fn segment(alloc: Global, start: u64, pages: u64) -> Result<Seg, AllocError> {
     Ok(Seg { start, bytes })
 }
 
-fn small_image(alloc: Global) -> Result<Parts, AllocError> {
-    let wanted = vec![in alloc; START + 0x1000, START + 0x2000, START + 0x4000]?;
+// The parts of a small valid image, or, for a rule's number, those that break this rule and no earlier one.
+fn image_breaking(alloc: Global, rule: u8) -> Result<Parts, AllocError> {
     Ok(Parts {
         arch: Arch::Riscv,
-        segs: Sequence::new(vec![in alloc; segment(alloc, START, 6)?]?),
-        avail: Sequence::new(vec![in alloc; (START, START + 0x6000)]?),
-        wanted: Sequence::new(wanted),
-        root: START,
-        windows: Windows {
-            kernbase: 0xffff_ffc0_0000_0000,
-            kernspan: 0x20_0000,
-            dmapbase: 0xffff_ffd0_0000_0000,
-            dmapend: 0xffff_ffd0_0000_6000,
-            dmapphys: START,
-        },
-        texts: Texts {
-            host: Sequence::new(b"rv".to_vec(alloc)?),
-            version: Sequence::new(b"FreeBSD 14".to_vec(alloc)?),
-            panic: Sequence::new(b"test".to_vec(alloc)?),
-            msgbuf: Sequence::new(b"panic: test\n".to_vec(alloc)?),
-            time: 1_700_000_000,
-        },
+        segs: segs_breaking(alloc, rule)?,
+        avail: avail_breaking(alloc, rule)?,
+        wanted: wanted_breaking(alloc, rule)?,
+        root: if rule == 10 { START + 8 } else { START },
+        windows: windows_breaking(rule),
+        texts: no_texts(alloc),
     })
 }
 
-fn two_segments(alloc: Global, start: u64) -> Result<Sequence<Seg>, AllocError> {
-    let first = segment(alloc, START, 6)?;
-    let second = segment(alloc, start, 1)?;
-    Ok(Sequence::new(vec![in alloc; first, second]?))
-}
-
-fn pairs(
-    alloc: Global,
-    first: (u64, u64),
-    second: (u64, u64),
-) -> Result<Sequence<(u64, u64)>, AllocError> {
-    Ok(Sequence::new(vec![in alloc; first, second]?))
-}
-
-// The small image with one change, which breaks this rule and no earlier one.
-fn broken_image(alloc: Global, rule: u8) -> Result<Parts, AllocError> {
-    let mut parts = small_image(alloc)?;
-    match rule {
-        1 => parts.segs = Sequence::new(Vec::new(alloc)),
-        2 => parts.segs = two_segments(alloc, START + 0x6001)?,
-        3 => parts.segs = two_segments(alloc, START + 0x5000)?,
-        4 => parts.segs = two_segments(alloc, 1 << 56)?,
-        5 => parts.texts.host = Sequence::new(vec![in alloc; b'h'; 256]?),
-        6 => parts.avail = pairs(
-            alloc,
-            (START, START + 0x1000),
-            (START + 0x2000, START + 0x2000),
-        )?,
-        7 => parts.avail = pairs(
-            alloc,
-            (START, START + 0x3000),
-            (START + 0x2000, START + 0x4000),
-        )?,
-        8 => parts.avail = pairs(
-            alloc,
-            (START, START + 0x3000),
-            (START + 0x4000, START + 0x7000),
-        )?,
-        9 => parts.wanted = Sequence::new(vec![in alloc; START, START + 0x1000, START + 0x1000]?),
-        10 => parts.root = START + 8,
-        11 => parts.windows.kernspan = 0x1000,
-        12 => parts.windows.kernbase = 0xffff_ffbf_ffe0_0000,
-        13 => parts.windows.dmapphys = (1 << 56) - 0x5000,
-        _ => parts.windows.dmapbase = 0xffff_ffc0_001f_f000,
+fn segs_breaking(alloc: Global, rule: u8) -> Result<Sequence<Seg>, AllocError> {
+    let mut segs = Vec::new(alloc);
+    if rule != 1 {
+        segs.push(segment(alloc, START, 6)?)?;
     }
-    Ok(parts)
+    let second = match rule {
+        2 => START + 0x6001,
+        3 => START + 0x5000,
+        4 => 1 << 56,
+        _ => 0,
+    };
+    if second != 0 {
+        segs.push(segment(alloc, second, 1)?)?;
+    }
+    Ok(Sequence::new(segs))
+}
+
+fn avail_breaking(alloc: Global, rule: u8) -> Result<Sequence<(u64, u64)>, AllocError> {
+    if rule == 5 {
+        return Ok(Sequence::new(vec![in alloc; (START, START + 0x3000); 1025]?));
+    }
+    let second = match rule {
+        6 => (START + 0x4000, START + 0x4000),
+        7 => (START + 0x2000, START + 0x6000),
+        8 => (START + 0x4000, START + 0x7000),
+        _ => (START + 0x3000, START + 0x6000),
+    };
+    Ok(Sequence::new(vec![in alloc; (START, START + 0x3000), second]?))
+}
+
+fn wanted_breaking(alloc: Global, rule: u8) -> Result<Sequence<u64>, AllocError> {
+    let last = if rule == 9 {
+        START + 0x2000
+    } else {
+        START + 0x4000
+    };
+    Ok(Sequence::new(vec![in alloc; START + 0x1000, START + 0x2000, last]?))
+}
+
+fn windows_breaking(rule: u8) -> Windows {
+    let (kernbase, kernspan) = match rule {
+        11 => (0xffff_ffc0_0000_0000, 0x1000),
+        12 => (0xffff_ffbf_ffe0_0000, 0x20_0000),
+        14 => (0xffff_ffcf_ffe0_0000, 0x40_0000),
+        _ => (0xffff_ffc0_0000_0000, 0x20_0000),
+    };
+    Windows {
+        kernbase,
+        kernspan,
+        dmapbase: 0xffff_ffd0_0000_0000,
+        dmapend: 0xffff_ffd0_0000_6000,
+        dmapphys: if rule == 13 {
+            (1 << 56) - 0x5000
+        } else {
+            START
+        },
+    }
+}
+
+fn no_texts(alloc: Global) -> Texts {
+    Texts {
+        host: Sequence::new(Vec::new(alloc)),
+        version: Sequence::new(Vec::new(alloc)),
+        panic: Sequence::new(Vec::new(alloc)),
+        msgbuf: Sequence::new(Vec::new(alloc)),
+        time: 1_700_000_000,
+    }
+}
+
+fn small_image(alloc: Global) -> Result<Image, Fail> {
+    Ok(
+        Image::new(image_breaking(alloc, 0)?)
+            .ok()
+            .ok_or("a valid image")?,
+    )
 }
 
 #[test]
 fn each_rule_is_refused_at_its_least_place(rt: HostRuntime) -> Result<(), Fail> {
     let places = [0, 1, 1, 1, 0, 1, 1, 1, 2, 0, 0, 0, 0, 0];
     for (rule, place) in (1..=14).zip(places) {
-        let parts = broken_image(rt.alloc(), rule)?;
+        let parts = image_breaking(rt.alloc(), rule)?;
         let bad = Image::new(parts).err();
         assert_eq!(rt; bad, Some(BadImage { rule, place }), "rule {rule}");
     }
@@ -110,9 +127,7 @@ fn each_rule_is_refused_at_its_least_place(rt: HostRuntime) -> Result<(), Fail> 
 
 #[test]
 fn a_valid_image_lends_its_words_and_pages(rt: HostRuntime) -> Result<(), Fail> {
-    let image = Image::new(small_image(rt.alloc())?)
-        .ok()
-        .ok_or("a valid image")?;
+    let image = small_image(rt.alloc())?;
     let words = [
         (START, Some(0)),
         (START + 0x1008, Some(START + 0x1008)),
@@ -135,15 +150,16 @@ fn a_valid_image_lends_its_words_and_pages(rt: HostRuntime) -> Result<(), Fail> 
 
 #[test]
 fn a_valid_image_gives_its_parts(rt: HostRuntime) -> Result<(), Fail> {
-    let image = Image::new(small_image(rt.alloc())?)
-        .ok()
-        .ok_or("a valid image")?;
+    let image = small_image(rt.alloc())?;
     assert_eq!(rt; image.arch(), Arch::Riscv);
     assert_eq!(rt; image.segs().len(), 1);
-    assert_eq!(rt; image.avail(), [(START, START + 0x6000)].as_slice());
+    assert_eq!(rt;
+        image.avail(),
+        [(START, START + 0x3000), (START + 0x3000, START + 0x6000)].as_slice()
+    );
     assert_eq!(rt; image.wanted().len(), 3);
     assert_eq!(rt; image.root(), START);
     assert_eq!(rt; image.windows().dmapphys, START);
-    assert_eq!(rt; image.texts().host.as_slice(), b"rv".as_slice());
+    assert_eq!(rt; image.texts().time, 1_700_000_000);
     Ok(())
 }

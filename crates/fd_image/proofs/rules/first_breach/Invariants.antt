@@ -1,4 +1,4 @@
-use Rattle.std.proofs.Common.{◌≡◌, ◌+◌, length, drop}
+use Rattle.std.proofs.Common.{◌≡◌, ◌+◌, drop}
 use Rattle.fd_image.specs.Image.{first_breach}
 use Rattle.fd_image.proofs.rules.first_breach.Given as goal
 

@@ -1,4 +1,4 @@
-use Rattle.std.proofs.Common.{◌≡◌, ◌<◌, ℕ, true, false, get_or, sym, refl, arith}
+use Rattle.std.proofs.Common.{ℕ, get_or, sym, refl, arith}
 use Rattle.std.proofs.lemmas.Bool.Decides.{nat_tests}
 use Rattle.fd_image.specs.Image.{pair_begins_at_or_after, pair_end}
 use Rattle.fd_image.proofs.Places.{InOrder-more, InOrder-fails, InOrder-end}

@@ -1,7 +1,7 @@
-use Rattle.std.proofs.Common.{◌≡◌, ◌<◌, ℕ, true, false, sym, ap, subst, arith}
+use Rattle.std.proofs.Common.{sym, arith}
 use Rattle.std.proofs.lemmas.Bool.Decides.{nat_tests}
 use Rattle.fd_image.specs.Image.{begins_at_or_after, end_of}
-use Rattle.fd_image.proofs.Places.{InOrder, InOrder-more, InOrder-fails, InOrder-end}
+use Rattle.fd_image.proofs.Places.{InOrder-more, InOrder-fails, InOrder-end}
 use Rattle.fd_image.proofs.rules.segment_out_of_order.Goals as goal
 
 pub returns-then-from-before : goal.returns-then-from-before

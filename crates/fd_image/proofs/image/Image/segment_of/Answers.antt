@@ -1,6 +1,5 @@
-use Rattle.std.proofs.Common.{◌≡◌, ◌∙◌, ap, find}
-use Rattle.std.specs.Option.{option_copied}
-use Rattle.fd_image.specs.Physical.{has_address, segment_of}
+use Rattle.std.proofs.Common.{◌∙◌, ap, find}
+use Rattle.fd_image.specs.Physical.{has_address}
 use Rattle.fd_image.proofs.Valid.{segment_lent-has, segment_lent-whole}
 use Rattle.fd_image.proofs.image.Image.segment_of.Goals as goal
 

@@ -1,0 +1,4 @@
+pub mod Layout
+pub mod Page
+pub mod Places
+pub mod Read

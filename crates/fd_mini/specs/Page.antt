@@ -1,0 +1,46 @@
+-- The header page of a minidump: struct minidumphdr (minidump.h of each architecture). Numbers are little-endian.
+use Rattle.std.specs.Prelude.{ℕ, ◌+◌, ◌-◌, Bool, if◌then◌else◌, List, [], ◌++◌, length, replicate}
+use Rattle.std.specs.Int.{w32, w64, to_le_bytes}
+use Rattle.fd_bytes.specs.Field.{u32_le_at, u64_le_at}
+use Rattle.fd_bytes.specs.declared.arch.Arch.{Arch}
+use Rattle.fd_mini.specs.Layout.{layout_of, magic_of}
+use Rattle.fd_mini.specs.declared.header.MiniHeader.{MiniHeader}
+
+-- the bytes of a field that the page may not have
+abbrev pub when : Bool → List ℕ → List ℕ
+when has_field bytes = if has_field then bytes else []
+
+-- the fields in their order
+abbrev pub front_of : MiniHeader → List ℕ
+front_of h =
+    magic_of h.arch ++ to_le_bytes w32 h.version ++ to_le_bytes w32 h.msgbufsize ++ to_le_bytes w32 h.bitmapsize ++ to_le_bytes w32 h.pmapsize ++ to_le_bytes w64 h.kernbase ++ when (layout_of h.arch).has_dmapphys (to_le_bytes w64 h.dmapphys) ++ to_le_bytes w64 h.dmapbase ++ to_le_bytes w64 h.dmapend ++ to_le_bytes w32 h.dumpavailsize ++ when (layout_of h.arch).has_flags (to_le_bytes w32 h.flags)
+
+-- a page that begins with these bytes and is zero after them
+abbrev pub filled : List ℕ → List ℕ
+filled front = front ++ replicate (4096 - length front) 0
+
+-- the header page of these fields
+unfoldable pub page_of : MiniHeader → List ℕ
+page_of h = filled (front_of h)
+
+-- how many bytes dmapphys takes, which only some pages have
+abbrev pub shift_of : Bool → ℕ
+shift_of has_dmapphys = if has_dmapphys then 8 else 0
+
+-- the fields of an architecture's header page; the fields after dmapphys stand behind it, where there is one
+abbrev pub fields_in : Arch → List ℕ → MiniHeader
+fields_in arch page =
+    let shift = shift_of (layout_of arch).has_dmapphys in
+    record {
+      arch = arch;
+      version = u32_le_at page 24;
+      msgbufsize = u32_le_at page 28;
+      bitmapsize = u32_le_at page 32;
+      pmapsize = u32_le_at page 36;
+      kernbase = u64_le_at page 40;
+      dmapphys = if (layout_of arch).has_dmapphys then u64_le_at page 48 else 0;
+      dmapbase = u64_le_at page (48 + shift);
+      dmapend = u64_le_at page (56 + shift);
+      dumpavailsize = u32_le_at page (64 + shift);
+      flags = if (layout_of arch).has_flags then u32_le_at page (68 + shift) else 0;
+    }

@@ -1,0 +1,17 @@
+//! The header page of a minidump, both ways, and the places of the sections that follow it, for the current
+//! versions of amd64, arm64 and riscv: `struct minidumphdr` of each architecture's `minidump.h`.
+#![tactic(auto)]
+
+mod front;
+mod header;
+mod layout;
+mod places;
+mod read;
+#[cfg(test)]
+mod tests;
+mod write;
+
+pub use header::MiniHeader;
+pub use places::{Places, places_of};
+pub use read::{MiniFault, MiniField, read_header};
+pub use write::write_header;

@@ -1,0 +1,133 @@
+//! Header pages byte by byte, the places of their sections, and what is refused.
+ghost use Rattle.std.specs.Prelude.{◌≡◌};
+ghost use Rattle.fd_mini.specs.Layout.{layout_of};
+
+use crate::{MiniFault, MiniField, MiniHeader, Places, places_of, read_header, write_header};
+use fd_bytes::Arch;
+
+// The header of a small riscv machine's minidump.
+const SMALL: MiniHeader = MiniHeader {
+    arch: Arch::Riscv,
+    version: 2,
+    msgbufsize: 12,
+    bitmapsize: 4096,
+    pmapsize: 4096,
+    kernbase: 0xffff_ffc0_0000_0000,
+    dmapphys: 0x8000_0000,
+    dmapbase: 0xffff_ffd0_0000_0000,
+    dmapend: 0xffff_ffd0_0000_6000,
+    dumpavailsize: 4096,
+    flags: 0,
+};
+
+const ARM: MiniHeader = MiniHeader {
+    arch: Arch::Arm64,
+    version: 3,
+    flags: 0xffff_fffc,
+    ..SMALL
+};
+
+const AMD: MiniHeader = MiniHeader {
+    arch: Arch::Amd64,
+    version: 3,
+    msgbufsize: 0,
+    pmapsize: 8192,
+    dmapphys: 0,
+    ..SMALL
+};
+
+fn written(header: &MiniHeader) -> [u8; 4096]
+    requires { header.now.version ≡ (layout_of header.now.arch).version }
+{
+    let mut page = [0xff; 4096];
+    write_header(header, &mut page);
+    page
+}
+
+#[test]
+fn a_riscv_page_has_the_fields_of_its_struct(rt: HostRuntime) {
+    let page = written(&SMALL);
+    let fields: [(usize, &[u8]); 5] = [
+        (0, b"minidump FreeBSD/riscv\0\0"),
+        (24, &[2, 0, 0, 0, 12, 0, 0, 0, 0, 16, 0, 0, 0, 16, 0, 0]),
+        (
+            40,
+            &[
+                0, 0, 0, 0, 0xc0, 0xff, 0xff, 0xff, 0, 0, 0, 0x80, 0, 0, 0, 0,
+            ],
+        ),
+        (
+            64,
+            &[
+                0, 0x60, 0, 0, 0xd0, 0xff, 0xff, 0xff, 0, 16, 0, 0, 0, 0, 0, 0,
+            ],
+        ),
+        (4088, &[0, 0, 0, 0, 0, 0, 0, 0]),
+    ];
+    for (at, bytes) in fields {
+        assert!(rt; page[at..].starts_with(bytes), "at {at}");
+    }
+}
+
+#[test]
+fn each_page_is_read_back(rt: HostRuntime) {
+    for header in [SMALL, ARM, AMD] {
+        assert_eq!(rt; read_header(&written(&header)), Ok(header));
+    }
+}
+
+#[test]
+fn the_first_reason_is_named(rt: HostRuntime) {
+    let too_large = MiniHeader {
+        dumpavailsize: (1 << 20) + 1,
+        bitmapsize: (1 << 26) + 1,
+        ..ARM
+    };
+    let long_bitmap = MiniHeader {
+        bitmapsize: (1 << 26) + 1,
+        ..AMD
+    };
+    let big_granule = MiniHeader {
+        flags: 6,
+        ..too_large
+    };
+    let faults = [
+        (big_granule, MiniFault::BigGranule(6)),
+        (
+            too_large,
+            MiniFault::TooLarge(MiniField::DumpAvail, (1 << 20) + 1),
+        ),
+        (
+            long_bitmap,
+            MiniFault::TooLarge(MiniField::Bitmap, (1 << 26) + 1),
+        ),
+    ];
+    for (header, fault) in faults {
+        assert_eq!(rt; read_header(&written(&header)), Err(fault));
+    }
+    let mut page = written(&SMALL);
+    page[24] = 9;
+    assert_eq!(rt; read_header(&page), Err(MiniFault::UnknownVersion(9)));
+    page[23] = 1;
+    assert_eq!(rt; read_header(&page), Err(MiniFault::BadMagic));
+}
+
+#[test]
+fn sections_begin_at_multiples_of_a_page(rt: HostRuntime) {
+    let riscv = Places {
+        msgbuf: 4096,
+        avail: 8192,
+        bitmap: 12288,
+        directory: 16384,
+        pages: 20480,
+    };
+    let amd64 = Places {
+        msgbuf: 4096,
+        avail: 4096,
+        bitmap: 8192,
+        directory: 12288,
+        pages: 20480,
+    };
+    assert_eq!(rt; places_of(&SMALL), riscv);
+    assert_eq!(rt; places_of(&AMD), amd64);
+}
