@@ -2,16 +2,16 @@
 use Rattle.std.proofs.Common.{◌≡◌, ℕ, Bool, false, cond, Option, Some, None, refl, sym, ◌∙◌, ap}
 use Rattle.fd_site.specs.Contents.{Contents, Told, part_of, nothing_told}
 use Rattle.fd_cli.specs.Outcome.{StandsFor, IsAnswer, answer_of, verdict_answer}
-use Rattle.fd_cli.specs.Partition.{is_good}
-use Rattle.fd_cli.specs.Verdict.{judged}
+use Rattle.fd_part.specs.Partition.{is_good}
+use Rattle.fd_judge.specs.Verdict.{judged}
 use Rattle.fd_cli.specs.declared.answer.Answer.{Answer}
 use Rattle.fd_cli.specs.declared.answer.Answer.TheVariants as answer
 use Rattle.fd_cli.specs.declared.command.Command.{Command}
 use Rattle.fd_cli.specs.declared.command.Command.TheVariants.{Judge}
 use Rattle.fd_cli.specs.declared.refusal.Refusal.TheVariants.{Partition}
-use Rattle.fd_cli.specs.declared.verdict.Verdict.{Verdict}
-use Rattle.fd_cli.specs.declared.verdict.Verdict.TheVariants.{Refused}
-use Rattle.fd_cli.specs.declared.verdict.Why.TheVariants.{NoMagic}
+use Rattle.fd_judge.specs.declared.verdict.Verdict.{Verdict}
+use Rattle.fd_judge.specs.declared.verdict.Verdict.TheVariants.{Refused}
+use Rattle.fd_judge.specs.declared.verdict.Why.TheVariants.{NoMagic}
 
 -- the told partition's verdict, or any
 pub verdict_of : Option Contents → ℕ → Verdict

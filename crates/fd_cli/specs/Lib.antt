@@ -1,4 +1,2 @@
 pub mod Outcome
-pub mod Partition
 pub mod Refusal
-pub mod Verdict

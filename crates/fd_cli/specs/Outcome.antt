@@ -4,11 +4,11 @@ use Rattle.std.specs.Fmt.{decimal}
 use Rattle.std.specs.Str.{bytes_eq}
 use Rattle.fd_site.specs.Contents.{Contents, Told, part_of}
 use Rattle.fd_site.specs.Trace.{grown}
-use Rattle.fd_cli.specs.Partition.{is_good}
-use Rattle.fd_cli.specs.Verdict.{judged}
+use Rattle.fd_part.specs.Partition.{is_good}
+use Rattle.fd_judge.specs.Verdict.{judged}
 use Rattle.fd_cli.specs.Refusal.{line_of, status_of}
-use Rattle.fd_cli.specs.declared.verdict.Verdict.{Verdict}
-use Rattle.fd_cli.specs.declared.verdict.Verdict.TheVariants as verdict
+use Rattle.fd_judge.specs.declared.verdict.Verdict.{Verdict}
+use Rattle.fd_judge.specs.declared.verdict.Verdict.TheVariants as verdict
 use Rattle.fd_cli.specs.declared.refusal.Refusal.{Refusal}
 use Rattle.fd_cli.specs.declared.refusal.Refusal.TheVariants.{Judged, Partition, NotCommand}
 use Rattle.fd_cli.specs.declared.answer.Answer.{Answer}

@@ -1,8 +1,8 @@
 -- What is printed where something is refused, and the status that the program then ends with.
 use Rattle.std.specs.Prelude.{ℕ, ◌-◌, Bool, false, List, [], ◌∷◌, ◌++◌, length, replicate, codes}
 use Rattle.std.specs.Fmt.{decimal, digits}
-use Rattle.fd_cli.specs.declared.verdict.Why.{Why}
-use Rattle.fd_cli.specs.declared.verdict.Why.TheVariants.{NoMagic, TextDump, Cleared, UnknownVersion, BadParity, Compressed, Encrypted, UnknownArch, BadBlock, LengthDiffers, BadExtent, Disagree}
+use Rattle.fd_judge.specs.declared.verdict.Why.{Why}
+use Rattle.fd_judge.specs.declared.verdict.Why.TheVariants.{NoMagic, TextDump, Cleared, UnknownVersion, BadParity, Compressed, Encrypted, UnknownArch, BadBlock, LengthDiffers, BadExtent, Disagree}
 use Rattle.fd_cli.specs.declared.refusal.Refusal.{Refusal}
 use Rattle.fd_cli.specs.declared.refusal.Refusal.TheVariants.{Judged, Partition, NotCommand}
 

@@ -5,19 +5,15 @@
 
 mod answer;
 mod command;
-mod partition;
 mod refusal;
 mod run;
 pub mod status;
-mod verdict;
 mod word;
 
 pub use answer::Answer;
 pub use command::Command;
-pub use partition::good_partition;
 pub use refusal::Refusal;
 pub use run::crashway;
-pub use verdict::{Verdict, Why, judge};
 pub use word::Word;
 
 #[cfg(test)]

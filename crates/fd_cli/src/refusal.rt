@@ -2,7 +2,7 @@ ghost use Rattle.std.specs.Prelude.{◌≡◌, Some};
 ghost use Rattle.fd_cli.specs.Refusal.{line_of, number_of, number_of_why, status_of, text_of_why};
 
 use crate::status;
-use crate::verdict::Why;
+use fd_judge::Why;
 use std::fmt;
 
 /// Something that the program refuses. It is printed as `refused NUMBER: TEXT`.

@@ -45,6 +45,10 @@ IsFailedPart at bytes added =
 abbrev pub IsFailedFile : List ℕ → List Entry → Type 0
 IsFailedFile name added = (added ≡ []) ⊎ ((now : Option (List ℕ)) × (added ≡ Spoiled name now ∷ []))
 
+-- what is told grew by some entries of which P holds
+abbrev pub Adds : (List Entry → Type 0) → Option Contents → Option Contents → Type 0
+Adds P old new = (added : List Entry) × P added × (new ≡ with_entries old added)
+
 -- what a site that tells nothing would tell meets anything
 pub nothing_told : {P : Type 0} (c : Contents) → None ≡ Some c → P
 nothing_told c is = absurd (is_some_of is)

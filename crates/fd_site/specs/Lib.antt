@@ -2,5 +2,5 @@ pub mod Contents
 pub mod Cut
 pub mod Fault
 pub mod Journal
-pub mod Memory
+pub mod Name
 pub mod Trace

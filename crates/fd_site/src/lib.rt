@@ -5,17 +5,20 @@
 //! leaves a cut.
 #![tactic(auto)]
 
-mod calls;
 mod link;
-mod memory;
+mod name;
 mod no_net;
+mod pieces;
 mod ports;
 mod sink;
 mod site;
+mod slice_pieces;
 
 pub use link::Link;
-pub use memory::{MemSink, MemSite, NoMemory};
+pub use name::good_name;
 pub use no_net::NoNet;
+pub use pieces::Pieces;
 pub use ports::{Peer, Ports};
 pub use sink::Sink;
 pub use site::{Failed, Site, SiteFault};
+pub use slice_pieces::SlicePieces;

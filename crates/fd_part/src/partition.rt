@@ -1,5 +1,5 @@
 ghost use Rattle.std.specs.Prelude.{◌≡◌};
-ghost use Rattle.fd_cli.specs.Partition.{is_good};
+ghost use Rattle.fd_part.specs.Partition.{is_good};
 
 /// Whether a dump can be written to a partition of `size` bytes with blocks of `block` bytes: the block is 512,
 /// 1024, 2048 or 4096, and the size is a positive multiple of it.

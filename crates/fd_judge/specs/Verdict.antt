@@ -4,26 +4,23 @@ use Rattle.std.specs.List.{zip}
 use Rattle.std.specs.Str.{bytes_eq}
 use Rattle.fd_bytes.specs.Arch.{arch_of_header}
 use Rattle.fd_kdh.specs.Header.{decoded, live_magic, cleared_magic}
+use Rattle.fd_part.specs.Partition.{need_of, sector_at, trailing_sector, leading_place, dump_place}
 use Rattle.fd_kdh.specs.declared.header.Header.{Header}
 use Rattle.fd_kdh.specs.declared.header.HeaderFault.{HeaderFault}
 use Rattle.fd_kdh.specs.declared.header.HeaderFault.TheVariants as fault
-use Rattle.fd_cli.specs.declared.verdict.Why.{Why}
-use Rattle.fd_cli.specs.declared.verdict.Why.TheVariants.{NoMagic, TextDump, Cleared, UnknownVersion, BadParity, Compressed, Encrypted, UnknownArch, BadBlock, LengthDiffers, BadExtent, Disagree}
-use Rattle.fd_cli.specs.declared.verdict.Verdict.{Verdict}
-use Rattle.fd_cli.specs.declared.verdict.Verdict.TheVariants.{Dump, Refused}
-
--- the sector at a place of a partition
-abbrev pub sector_at : List ℕ → ℕ → List ℕ
-sector_at part at = slice_range part at (at + 512)
+use Rattle.fd_judge.specs.declared.verdict.Why.{Why}
+use Rattle.fd_judge.specs.declared.verdict.Why.TheVariants.{NoMagic, TextDump, Cleared, UnknownVersion, BadParity, Compressed, Encrypted, UnknownArch, BadBlock, LengthDiffers, BadExtent, Disagree}
+use Rattle.fd_judge.specs.declared.verdict.Verdict.{Verdict}
+use Rattle.fd_judge.specs.declared.verdict.Verdict.TheVariants.{Dump, Refused}
 
 -- the trailing sector as a judge takes it: by force, a cleared header stands for a live one
 abbrev pub taken : Bool → List ℕ → List ℕ
 taken force sector =
     if force && bytes_eq (take 20 sector) cleared_magic then live_magic ++ drop 20 sector else sector
 
--- a dump of this extent, between its two header blocks, behind the 65536 bytes that no dump touches
-abbrev pub fits : ℕ → ℕ → ℕ → Bool
-fits size block extent = not (nat_lt size (65536 + extent + 2 * block))
+-- whether a partition has room for a dump of this extent
+abbrev pub has_room : ℕ → ℕ → ℕ → Bool
+has_room size block extent = not (nat_lt size (need_of block extent))
 
 -- what a header can be refused for, in order, each with its test
 abbrev pub reasons : Header → ℕ → ℕ → List (Bool × Why)
@@ -33,7 +30,7 @@ reasons h size block =
     ∷ (is_none (arch_of_header h.architecture h.architectureversion), UnknownArch)
     ∷ (not (h.blocksize == block), BadBlock h.blocksize)
     ∷ (not (h.dumplength == h.dumpextent), LengthDiffers h.dumplength h.dumpextent)
-    ∷ (h.dumpextent == 0 || not (h.dumpextent % block == 0) || not (fits size block h.dumpextent), BadExtent h.dumpextent)
+    ∷ (h.dumpextent == 0 || not (h.dumpextent % block == 0) || not (has_room size block h.dumpextent), BadExtent h.dumpextent)
     ∷ []
 
 -- the first that applies
@@ -62,8 +59,8 @@ by_leading h at sector (Some place) = Refused (Disagree place)
 abbrev pub by_fields : List ℕ → ℕ → List ℕ → List ℕ → Header → Option Why → Verdict
 by_fields part block sector seen h (Some why) = Refused why
 by_fields part block sector seen h None =
-    let leading = length part - h.dumpextent - 2 * block in
-    by_leading h (leading + block) sector (first_difference seen (sector_at part leading))
+    by_leading h (dump_place (length part) block h.dumpextent) sector
+      (first_difference seen (sector_at part (leading_place (length part) block h.dumpextent)))
 
 -- by what the trailing header decodes to
 abbrev pub by_header : List ℕ → ℕ → List ℕ → List ℕ → Result Header HeaderFault → Verdict
@@ -78,4 +75,4 @@ by_sectors part block sector seen = by_header part block sector seen (decoded se
 -- before that block, and the leading header in the first sector of the block before the dump.
 abbrev pub judged : List ℕ → ℕ → Bool → Verdict
 judged part block force =
-    by_sectors part block (sector_at part (length part - block)) (taken force (sector_at part (length part - block)))
+    by_sectors part block (trailing_sector part block) (taken force (trailing_sector part block))

@@ -1,8 +1,8 @@
 ghost use Rattle.std.specs.Prelude.{◌≡◌, ◌+◌, ◌-◌, ◌*◌, ◌<◌, ◌≤◌, IsTrue, IfOk, IfSome, IfNone, OnErr};
 ghost use Rattle.fd_site.specs.Contents.{Told, part_of, IsSectors};
 ghost use Rattle.fd_site.specs.Fault.{Rose};
-ghost use Rattle.fd_cli.specs.Partition.{is_good};
-ghost use Rattle.fd_cli.specs.Verdict.{judged, taken, reasons, first_of, first_difference, reason_of};
+ghost use Rattle.fd_part.specs.Partition.{is_good, leading_place, need_of};
+ghost use Rattle.fd_judge.specs.Verdict.{judged, taken, reasons, first_of, first_difference, reason_of};
 
 use fd_bytes::Arch;
 use fd_kdh::{CLEARED_MAGIC, Header, HeaderFault, LIVE_MAGIC, decode};
@@ -79,8 +79,8 @@ fn take_sector(sector: &[u8; 512], force: bool) -> [u8; 512]
 fn header_reason(header: &Header, size: u64, block: u32) -> Option<Why>
     requires { IsTrue (is_good size block) }
     ensures first { result ≡ first_of (reasons header.now size block) }
-    ensures leading { IfNone result (IsSectors (size - header.now.dumpextent - 2 * block) 512 size) }
-    ensures room { IfNone result (header.now.dumpextent + 2 * block ≤ size) }
+    ensures leading { IfNone result (IsSectors (leading_place size block header.now.dumpextent) 512 size) }
+    ensures room { IfNone result (need_of block header.now.dumpextent ≤ size) }
 {
     if header.compression != 0 {
         return Some(Why::Compressed(header.compression));
@@ -126,9 +126,9 @@ pub fn judge<S: Site>(site: &mut S, force: bool) -> Result<Verdict, SiteFault>
 {
     let size = site.size();
     let block = site.block();
-    let trailing = size - u64::from(block);
+    let block_bytes = u64::from(block);
     let mut sector = [0; 512];
-    site.read_part(trailing, &mut sector)?;
+    site.read_part(size - block_bytes, &mut sector)?;
     let seen = take_sector(&sector, force);
     let header = match decode(&seen) {
         Ok(header) => header,
@@ -138,14 +138,14 @@ pub fn judge<S: Site>(site: &mut S, force: bool) -> Result<Verdict, SiteFault>
         Some(why) => return Ok(Verdict::Refused(why)),
         None => {}
     }
-    let at = size - header.dumpextent - 2 * u64::from(block);
+    let extent = header.dumpextent;
     let mut leading = [0; 512];
-    site.read_part(at, &mut leading)?;
+    site.read_part(size - 2 * block_bytes - extent, &mut leading)?;
     match difference(&seen, &leading) {
         Some(place) => Ok(Verdict::Refused(Why::Disagree(place as u16))),
         None => Ok(Verdict::Dump {
             header,
-            at: at + u64::from(block),
+            at: size - block_bytes - extent,
             sector,
         }),
     }

@@ -3,10 +3,11 @@ use Rattle.std.proofs.Common.{◌≡◌, ℕ, ◌+◌, ◌-◌, ◌*◌, Bool, L
 use Rattle.fd_kdh.specs.Header.{decoded}
 use Rattle.fd_kdh.specs.declared.header.Header.{Header}
 use Rattle.fd_kdh.specs.declared.header.HeaderFault.{HeaderFault}
-use Rattle.fd_cli.specs.Verdict.{judged, taken, sector_at, reasons, first_of, first_difference, reason_of, by_leading, by_fields, by_header, by_sectors}
-use Rattle.fd_cli.specs.declared.verdict.Verdict.{Verdict}
-use Rattle.fd_cli.specs.declared.verdict.Verdict.TheVariants.{Refused}
-use Rattle.fd_cli.specs.declared.verdict.Why.{Why}
+use Rattle.fd_part.specs.Partition.{sector_at, leading_place, dump_place}
+use Rattle.fd_judge.specs.Verdict.{judged, taken, reasons, first_of, first_difference, reason_of, by_leading, by_fields, by_header, by_sectors}
+use Rattle.fd_judge.specs.declared.verdict.Verdict.{Verdict}
+use Rattle.fd_judge.specs.declared.verdict.Verdict.TheVariants.{Refused}
+use Rattle.fd_judge.specs.declared.verdict.Why.{Why}
 
 -- the trailing sector was read, and is taken as `seen`
 pub record ReadsTrailing (part : List ℕ) (size block : ℕ) (force : Bool) (sector seen : List ℕ) : Type 0 where
@@ -49,9 +50,9 @@ module _ {part : List ℕ} {size block : ℕ} {force : Bool} {sector seen : List
 
   -- the leading sector was read and compared
   pub judged_by_leading : (h : Header) (leading : List ℕ) → decoded seen ≡ Ok h → first_of (reasons h size block) ≡ None
-      → leading ≡ sector_at part (size - h.dumpextent - 2 * block)
-      → by_leading h (size - h.dumpextent - 2 * block + block) sector (first_difference seen leading) ≡ judged part block force
+      → leading ≡ sector_at part (leading_place size block h.dumpextent)
+      → by_leading h (dump_place size block h.dumpextent) sector (first_difference seen leading) ≡ judged part block force
   judged_by_leading h leading is first there =
-      ap (λ (l : List ℕ). by_leading h (size - h.dumpextent - 2 * block + block) sector (first_difference seen l)) there
-      ∙ ap (λ n. by_leading h (n - h.dumpextent - 2 * block + block) sector (first_difference seen (sector_at part (n - h.dumpextent - 2 * block)))) (sym reads.size_is)
+      ap (λ (l : List ℕ). by_leading h (dump_place size block h.dumpextent) sector (first_difference seen l)) there
+      ∙ ap (λ n. by_leading h (dump_place n block h.dumpextent) sector (first_difference seen (sector_at part (leading_place n block h.dumpextent)))) (sym reads.size_is)
       ∙ by_reason h None is first

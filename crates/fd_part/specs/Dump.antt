@@ -1,0 +1,57 @@
+-- What the writer of a dump asks of a partition, whole or stopped.
+use Rattle.std.specs.Prelude.{◌≡◌, ◌⊎◌, ℕ, ◌+◌, ◌-◌, ◌*◌, ◌%◌, ◌≤◌, Bool, List, [], ◌∷◌, ◌++◌, length, take, replicate}
+use Rattle.std.specs.List.{concat}
+use Rattle.fd_site.specs.Journal.{Entry, Part, Create, Write, Sync, Spoiled, Sector, sectors_of}
+use Rattle.fd_site.specs.Contents.{whole_part}
+use Rattle.fd_kdh.specs.Header.{dump_header}
+use Rattle.fd_kdh.specs.declared.header.Header.{Header}
+use Rattle.fd_part.specs.Partition.{leading_place, dump_place, trailing_place}
+
+-- a header's bytes, and zeros to the end of its block
+abbrev pub header_block : Header → ℕ → List ℕ
+header_block h block = dump_header h ++ replicate (block - 512) 0
+
+-- writes of these pieces, each behind the one before
+abbrev pub writes_from : ℕ → List (List ℕ) → List Entry
+writes_from at [] = []
+writes_from at (piece ∷ pieces) = whole_part at piece ∷ writes_from (at + length piece) pieces
+
+-- each piece is of whole sectors
+abbrev pub AllSectors : List (List ℕ) → Type 0
+AllSectors [] = Unit {0}
+AllSectors (piece ∷ pieces) = (length piece % 512 ≡ 0) × AllSectors pieces
+
+-- a dump's journal: the body in pieces, then the leading block, then the trailing block, each sector kept
+pub record IsDumpJournal (body : List ℕ) (h : Header) (size block : ℕ) (journal : List Entry) : Type 0 where
+  pub pieces : List (List ℕ)
+  pub sectors : AllSectors pieces
+  pub joined : concat pieces ≡ body
+  pub is : journal ≡
+      writes_from (dump_place size block (length body)) pieces
+      ++ whole_part (leading_place size block (length body)) (header_block h block)
+      ∷ whole_part (trailing_place size block) (header_block h block)
+      ∷ []
+
+-- a write of some of the first sectors of another's bytes, of which any were kept
+abbrev pub IsCutShort : Entry → Entry → Type 0
+IsCutShort (Part at bytes kept) (Part at' all kept') = (at ≡ at') × (length kept * 512 ≤ length all) × (bytes ≡ take (length kept * 512) all)
+IsCutShort e whole = ⊥
+
+-- the first entries of a list, the last of them maybe cut short
+abbrev pub IsStartOf : List Entry → List Entry → Type 0
+IsStartOf [] whole = Unit {0}
+IsStartOf (e ∷ es) [] = ⊥
+IsStartOf (e ∷ es) (w ∷ ws) = ((e ≡ w) × IsStartOf es ws) ⊎ ((es ≡ []) × IsCutShort e w)
+
+-- a started dump's journal
+pub record IsStartedDump (body : List ℕ) (h : Header) (size block : ℕ) (journal : List Entry) : Type 0 where
+  pub whole : List Entry
+  pub is_dump : IsDumpJournal body h size block whole
+  pub start : IsStartOf journal whole
+
+-- the sectors of a dump, in the order in which they are written: the body's, the leading block's, the trailing block's
+abbrev pub dump_sectors : List ℕ → Header → ℕ → ℕ → List Sector
+dump_sectors body h size block =
+    sectors_of (whole_part (dump_place size block (length body)) body)
+    ++ (sectors_of (whole_part (leading_place size block (length body)) (header_block h block))
+    ++ sectors_of (whole_part (trailing_place size block) (header_block h block)))

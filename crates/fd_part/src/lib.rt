@@ -1,0 +1,8 @@
+//! A dump on a partition: whether one can be there, and its writer. The dump stands between two header blocks at the
+//! partition's end; it is written body first, then the leading block, then the trailing one, so that a machine that
+//! stops leaves no header over half a dump. It follows FreeBSD's `kern_dump.c` and `kerneldump.h`.
+#![tactic(auto)]
+
+mod partition;
+
+pub use partition::good_partition;
