@@ -15,6 +15,3 @@ pub use command::Command;
 pub use refusal::Refusal;
 pub use run::crashway;
 pub use word::Word;
-
-#[cfg(test)]
-mod tests;

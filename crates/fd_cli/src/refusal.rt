@@ -16,34 +16,36 @@ pub enum Refusal {
     NotCommand,
 }
 
-impl Why {
-    // The number of its refusal.
-    fn number(&self) -> u8
-        ensures { result ≡ number_of_why self.now }
-    {
-        match self {
-            Why::NoMagic => 1,
-            Why::TextDump => 2,
-            Why::Cleared => 3,
-            Why::UnknownVersion(_) => 4,
-            Why::BadParity(_) => 5,
-            Why::Compressed(_) => 6,
-            Why::Encrypted(_) => 7,
-            Why::UnknownArch => 8,
-            Why::BadBlock(_) => 9,
-            Why::LengthDiffers(..) => 10,
-            Why::BadExtent(_) => 11,
-            Why::Disagree(_) => 12,
-        }
+// The number of a judge's refusal.
+fn reason_number(why: &Why) -> u8
+    ensures { result ≡ number_of_why why.now }
+{
+    match why {
+        Why::NoMagic => 1,
+        Why::TextDump => 2,
+        Why::Cleared => 3,
+        Why::UnknownVersion(_) => 4,
+        Why::BadParity(_) => 5,
+        Why::Compressed(_) => 6,
+        Why::Encrypted(_) => 7,
+        Why::UnknownArch => 8,
+        Why::BadBlock(_) => 9,
+        Why::LengthDiffers(..) => 10,
+        Why::BadExtent(_) => 11,
+        Why::Disagree(_) => 12,
     }
 }
 
-impl fmt::Display for Why {
-    ghost output = { λ why. Some (text_of_why why) };
+// The text of a judge's refusal.
+#[derive(Drop)]
+struct Reason<'a>(&'a Why);
+
+impl fmt::Display for Reason<'_> {
+    ghost output = { λ reason. Some (text_of_why reason.0.now) };
 
     #[tactic(auto, using(crate::proofs::Hex::padded_hex))]
     fn fmt<W: fmt::Write>(&self, f: &mut fmt::Formatter<W>) -> fmt::Result {
-        match self {
+        match self.0 {
             Why::NoMagic => write!(f, "no dump"),
             Why::TextDump => write!(f, "text dump"),
             Why::Cleared => write!(f, "cleared dump"),
@@ -65,7 +67,7 @@ impl Refusal {
         ensures { result ≡ number_of self.now }
     {
         match self {
-            Refusal::Judged(why) => why.number(),
+            Refusal::Judged(why) => reason_number(why),
             Refusal::Partition { .. } => 45,
             Refusal::NotCommand => 60,
         }
@@ -90,7 +92,10 @@ impl fmt::Display for Refusal {
         let number = self.number();
         write!(f, "refused {number}: ")?;
         match self {
-            Refusal::Judged(why) => write!(f, "{why}"),
+            Refusal::Judged(why) => {
+                let reason = Reason(why);
+                write!(f, "{reason}")
+            }
             Refusal::Partition { size, block } => write!(f, "partition {size} block {block}"),
             Refusal::NotCommand => write!(f, "not a command"),
         }

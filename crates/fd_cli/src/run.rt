@@ -5,11 +5,11 @@ ghost use Rattle.fd_cli.specs.declared.answer.Answer.{Answer};
 
 use crate::answer::Answer;
 use crate::command::{Command, read_command};
-use fd_part::good_partition;
 use crate::refusal::Refusal;
 use crate::status;
-use fd_judge::{Verdict, judge};
 use crate::word::Word;
+use fd_judge::{Verdict, judge};
+use fd_part::good_partition;
 use fd_site::{Link, Ports, Sink, Site, SiteFault};
 use std::alloc::Global;
 
