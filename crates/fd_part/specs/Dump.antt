@@ -1,7 +1,7 @@
 -- What the writer of a dump asks of a partition, whole or stopped.
-use Rattle.std.specs.Prelude.{◌≡◌, ◌⊎◌, ℕ, ◌+◌, ◌-◌, ◌*◌, ◌%◌, ◌≤◌, Bool, List, [], ◌∷◌, ◌++◌, length, take, replicate}
+use Rattle.std.specs.Prelude.{◌≡◌, ◌⊎◌, ℕ, ◌+◌, ◌-◌, ◌*◌, ◌%◌, ◌≤◌, List, [], ◌∷◌, ◌++◌, length, take, replicate}
 use Rattle.std.specs.List.{concat}
-use Rattle.fd_site.specs.Journal.{Entry, Part, Create, Write, Sync, Spoiled, Sector, sectors_of}
+use Rattle.fd_site.specs.Journal.{Entry, Part, Sector, sectors_of}
 use Rattle.fd_site.specs.Contents.{whole_part}
 use Rattle.fd_kdh.specs.Header.{dump_header}
 use Rattle.fd_kdh.specs.declared.header.Header.{Header}

@@ -1,2 +1,4 @@
 pub mod Dump
+pub mod Outcome
 pub mod Partition
+pub mod Writes

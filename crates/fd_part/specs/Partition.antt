@@ -1,5 +1,5 @@
 -- A partition, and where a dump stands on it.
-use Rattle.std.specs.Prelude.{◌≡◌, ◌≢◌, ℕ, ◌+◌, ◌-◌, ◌*◌, ◌%◌, ◌≤◌, Bool, ◌&&◌, ◌||◌, ◌==◌, nat_lt, List, length, take, slice_range}
+use Rattle.std.specs.Prelude.{◌≢◌, ℕ, ◌+◌, ◌-◌, ◌*◌, ◌%◌, Bool, ◌&&◌, ◌||◌, ◌==◌, nat_lt, List, length, take, slice_range}
 use Rattle.fd_kdh.specs.Header.{live_magic}
 
 -- the sizes of a block in bytes

@@ -3,6 +3,13 @@
 //! stops leaves no header over half a dump. It follows FreeBSD's `kern_dump.c` and `kerneldump.h`.
 #![tactic(auto)]
 
+mod dump;
+mod outcome;
 mod partition;
+#[cfg(test)]
+mod tests;
+mod writes;
 
+pub use dump::write_dump;
+pub use outcome::{PartFault, Wrote};
 pub use partition::good_partition;

@@ -1,0 +1,5 @@
+mod BodyWrites
+mod HeaderBlocks
+mod Progress
+mod Sectors
+mod WholeDump
