@@ -1,11 +1,10 @@
 -- What the tests of a judge say of a partition's bytes.
-use Rattle.std.proofs.Common.{◌≡◌, ℕ, ◌+◌, ◌-◌, ◌*◌, Bool, List, length, slice_range, Option, Some, None, Result, Ok, Err, refl, sym, ◌∙◌, ap}
+use Rattle.std.proofs.Common.{◌≡◌, ℕ, ◌-◌, Bool, List, length, Option, Some, None, Ok, Err, sym, ◌∙◌, ap}
 use Rattle.fd_kdh.specs.Header.{decoded}
 use Rattle.fd_kdh.specs.declared.header.Header.{Header}
 use Rattle.fd_kdh.specs.declared.header.HeaderFault.{HeaderFault}
 use Rattle.fd_part.specs.Partition.{sector_at, leading_place, dump_place}
 use Rattle.fd_judge.specs.Verdict.{judged, taken, reasons, first_of, first_difference, reason_of, by_leading, by_fields, by_header, by_sectors}
-use Rattle.fd_judge.specs.declared.verdict.Verdict.{Verdict}
 use Rattle.fd_judge.specs.declared.verdict.Verdict.TheVariants.{Refused}
 use Rattle.fd_judge.specs.declared.verdict.Why.{Why}
 

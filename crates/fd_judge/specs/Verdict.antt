@@ -1,5 +1,5 @@
 -- What judging a partition answers.
-use Rattle.std.specs.Prelude.{ℕ, ◌+◌, ◌-◌, ◌*◌, ◌%◌, Bool, ◌&&◌, ◌||◌, not, ◌==◌, nat_lt, List, [], ◌∷◌, ◌++◌, length, take, drop, slice_range, if◌then◌else◌, Option, Some, None, is_none, position, Result, Ok, Err}
+use Rattle.std.specs.Prelude.{ℕ, ◌%◌, Bool, ◌&&◌, ◌||◌, not, ◌==◌, nat_lt, List, [], ◌∷◌, ◌++◌, length, take, drop, if◌then◌else◌, Option, Some, None, is_none, position, Result, Ok, Err}
 use Rattle.std.specs.List.{zip}
 use Rattle.std.specs.Str.{bytes_eq}
 use Rattle.fd_bytes.specs.Arch.{arch_of_header}
@@ -60,7 +60,7 @@ abbrev pub by_fields : List ℕ → ℕ → List ℕ → List ℕ → Header →
 by_fields part block sector seen h (Some why) = Refused why
 by_fields part block sector seen h None =
     by_leading h (dump_place (length part) block h.dumpextent) sector
-      (first_difference seen (sector_at part (leading_place (length part) block h.dumpextent)))
+    (first_difference seen (sector_at part (leading_place (length part) block h.dumpextent)))
 
 -- by what the trailing header decodes to
 abbrev pub by_header : List ℕ → ℕ → List ℕ → List ℕ → Result Header HeaderFault → Verdict

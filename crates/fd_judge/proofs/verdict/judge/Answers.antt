@@ -1,4 +1,4 @@
-use Rattle.std.proofs.Common.{◌≡◌, ℕ, ◌+◌, ◌-◌, ◌*◌, sym, ◌∙◌, ap}
+use Rattle.std.proofs.Common.{sym, ◌∙◌, ap}
 use Rattle.fd_site.specs.Contents.{part_of}
 use Rattle.fd_part.specs.Partition.{sector_at, leading_place, dump_place}
 use Rattle.fd_judge.specs.Verdict.{judged, by_leading, first_difference}
