@@ -1,10 +1,10 @@
 -- What the validity of an image says of each of its fields.
-use Rattle.std.proofs.Common.{◌≡◌, ℕ, suc, ◌<◌, ◌≤◌, Bool, true, false, not, cond, find, List, [], ◌∷◌, length, get_or, Option, Some, None, Bor, IsTrue, IfSome, ap, sym, ◌∙◌, refl, arith}
+use Rattle.std.proofs.Common.{◌≡◌, ℕ, suc, ◌<◌, ◌≤◌, Bool, true, false, not, cond, find, List, [], ◌∷◌, length, get_or, Option, Some, None, Bor, IsTrue, IfSome, ap, sym, ◌∙◌, refl, arith, ◌%◌, min, max}
 use Rattle.std.specs.List.{position_or_len}
 use Rattle.std.specs.Option.{option_copied}
 use Rattle.std.proofs.lemmas.List.Sums.{fails_before_first}
 use Rattle.std.proofs.lemmas.Bool.Decides.{nat_tests}
-use Rattle.fd_image.specs.Image.{MachineImage, first_failing, missing_segment, ragged_segment, segment_out_of_order, segment_past_end, is_whole_pages, unless, is_within_limits, ragged_pair, pair_out_of_order, pair_outside, bad_wanted_page, bad_root, is_kernel_window, is_in_kernel_space, is_direct_map, are_apart, breaches, first_breach, broken_rule, IsValid}
+use Rattle.fd_image.specs.Image.{MachineImage, first_failing, missing_segment, ragged_segment, segment_out_of_order, segment_past_end, is_whole_pages, unless, is_within_limits, ragged_pair, pair_out_of_order, pair_outside, bad_wanted_page, bad_root, is_kernel_window, is_in_kernel_space, is_direct_map, are_apart, breaches, first_breach, broken_rule, IsValid, is_page_aligned, kernel_end}
 use Rattle.fd_image.specs.Physical.{has_address, segment_of}
 use Rattle.fd_image.specs.declared.parts.Seg.{Seg}
 
@@ -97,3 +97,20 @@ segment_lent-has m pa (Some seg) valid e = (segment_found m pa seg.now valid (sy
 pub segment_lent-whole : (m : MachineImage) (pa : ℕ) (r : Option (Bor Seg)) → IsValid m → option_copied r ≡ segment_of m pa → IfSome r (λ seg. IsTrue (is_whole_pages seg.now))
 segment_lent-whole m pa None valid e = tt
 segment_lent-whole m pa (Some seg) valid e = (segment_found m pa seg.now valid (sym e)).1
+
+-- a rule at place 0 is kept
+pub kept : (b : Bool) → unless b ≡ None → b ≡ true
+kept true e = refl
+kept false e = absurd cc
+
+pub root_is_aligned : (m : MachineImage) → IsValid m → m.root % 4096 ≡ 0
+root_is_aligned m valid =
+    let test : is_page_aligned m.root ≡ true = kept (is_page_aligned m.root) (rules_kept m valid.unbroken).root_aligned in
+    grind (arith, nat_tests)
+
+-- no kernel address lies in the kernel window and in the direct map
+pub no_address_in_both : (m : MachineImage) → IsValid m → (va : ℕ) → m.windows.kernbase ≤ va → va < kernel_end m.windows → m.windows.dmapbase ≤ va → va < m.windows.dmapend → ⊥
+no_address_in_both m valid va from_window to_window from_map to_map =
+    let test : are_apart m.windows ≡ true = kept (are_apart m.windows) (rules_kept m valid.unbroken).windows_apart in
+    let apart : min (kernel_end m.windows) m.windows.dmapend ≤ max m.windows.kernbase m.windows.dmapbase = grind (arith, nat_tests) in
+    omega arith

@@ -2,3 +2,4 @@ pub mod Layout
 pub mod Page
 pub mod Places
 pub mod Read
+pub mod Readable

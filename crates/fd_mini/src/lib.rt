@@ -4,6 +4,7 @@
 
 mod front;
 mod header;
+mod law;
 mod layout;
 mod places;
 mod read;
@@ -12,6 +13,7 @@ mod tests;
 mod write;
 
 pub use header::MiniHeader;
+pub use law::each_header_is_read_back;
 pub use places::{Places, places_of};
 pub use read::{MiniFault, MiniField, read_header};
 pub use write::write_header;

@@ -4,7 +4,7 @@ use Rattle.std.proofs.lemmas.Nat.{pow_pos, pow-add, field_of, mod-pow-add, mod_b
 use Rattle.std.proofs.Math.Pow.{mod-mod-pow}
 use Rattle.std.proofs.Math.Nat.{mod-eq_of_lt}
 use Rattle.fd_pte.specs.Entry.{bytes_under}
-use Rattle.fd_walk.specs.Tables.{index_at}
+use Rattle.fd_walk.specs.PageTables.{index_at}
 
 -- an entry maps 512 times what one right below it maps
 pub bytes_under-above : (height : ℕ) → bytes_under (height + 1) ≡ 512 * bytes_under height

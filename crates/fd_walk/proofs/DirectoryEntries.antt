@@ -8,7 +8,7 @@ use Rattle.std.proofs.lemmas.List.Concat.{flat_map-append}
 use Rattle.std.proofs.lemmas.Nat.{shr_below, mod_below, pow_pos}
 use Rattle.fd_pte.specs.declared.entry.Kind.TheVariants.{Absent, Table}
 use Rattle.fd_pte.specs.Entry.{bytes_under, units_under}
-use Rattle.fd_walk.specs.Tables.{PageTables, entry_at, kind_of_entry, kind_at}
+use Rattle.fd_walk.specs.PageTables.{PageTables, entry_at, kind_of_entry, kind_at}
 use Rattle.fd_walk.specs.Descent.{IsTable, IsOnWay, IsReached}
 use Rattle.fd_walk.specs.Leaf.{MappedBy, leaf_of_entry, leaf_at}
 use Rattle.fd_walk.specs.Directory.{DirectoryForm, expanded_leaf, entry_or_expanded, directory_entry, directory_bytes}

@@ -10,7 +10,7 @@ use Rattle.fd_pte.specs.declared.entry.Kind.TheVariants.{Table}
 use Rattle.fd_pte.specs.declared.entry.Kind.TheVariants as kinds
 use Rattle.fd_pte.specs.Entry.{bytes_under}
 use Rattle.fd_walk.specs.declared.leaf.Leaf.{Leaf}
-use Rattle.fd_walk.specs.Tables.{PageTables, kind_at, kind_of_entry}
+use Rattle.fd_walk.specs.PageTables.{PageTables, kind_at, kind_of_entry}
 use Rattle.fd_walk.specs.Descent.{IsReached}
 use Rattle.fd_walk.specs.Leaf.{MappedBy, leaf_of_entry, leaf_at, last_table, table_of_kind}
 use Rattle.fd_walk.specs.Step.{first_under}

@@ -8,7 +8,7 @@ use Rattle.std.proofs.lemmas.List.Elements.{filter_map-append}
 use Rattle.fd_pte.specs.declared.entry.Kind.{Kind}
 use Rattle.fd_pte.specs.declared.entry.Kind.TheVariants.{Absent, Table, Leaf}
 use Rattle.fd_pte.specs.Entry.{bytes_under}
-use Rattle.fd_walk.specs.Tables.{PageTables, entry_at, kind_at, kind_of_entry}
+use Rattle.fd_walk.specs.PageTables.{PageTables, entry_at, kind_at, kind_of_entry}
 use Rattle.fd_walk.specs.Descent.{IsReached}
 use Rattle.fd_walk.specs.Leaf.{leaf_of_entry, leaf_at}
 use Rattle.fd_walk.proofs.TablePath.{word_under, entry_at-top, entry_at-below}

@@ -10,7 +10,7 @@ use Rattle.std.proofs.Math.Nat.{le_refl}
 use Rattle.fd_pte.specs.declared.entry.Kind.{Kind}
 use Rattle.fd_pte.specs.declared.entry.Kind.TheVariants.{Absent, Table, Leaf}
 use Rattle.fd_pte.specs.Entry.{bytes_under}
-use Rattle.fd_walk.specs.Tables.{PageTables, TableEntry, entry_of_index, entries_of_table, entries_of_kind, entries_under, entries_below, seen_part, is_under, entry_at, index_at, kind_at}
+use Rattle.fd_walk.specs.PageTables.{PageTables, TableEntry, entry_of_index, entries_of_table, entries_of_kind, entries_under, entries_below, seen_part, is_under, entry_at, index_at, kind_at}
 use Rattle.fd_walk.proofs.Addresses.{bytes_under-above, place_of, place_of-top}
 use Rattle.fd_walk.proofs.Lists.{filter-flat_map, flat_map-filter, first, find-filter, first-option_to_list, filter-cons_kept, filter-cons_dropped}
 

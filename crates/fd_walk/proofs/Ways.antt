@@ -5,7 +5,7 @@ use Rattle.std.specs.Bool.{then_some}
 use Rattle.std.proofs.lemmas.Bool.{cases_lt, cases_Bool, eqb-true}
 use Rattle.fd_pte.specs.declared.entry.Kind.{Kind}
 use Rattle.fd_pte.specs.declared.entry.Kind.TheVariants.{Absent, Table, Leaf}
-use Rattle.fd_walk.specs.Tables.{PageTables, entry_at, index_at, kind_at, kind_of_entry}
+use Rattle.fd_walk.specs.PageTables.{PageTables, entry_at, index_at, kind_at, kind_of_entry}
 use Rattle.fd_walk.specs.Descent.{IsTable, IsOnWay, IsReached}
 use Rattle.fd_walk.specs.Step.{step_at, step_of}
 use Rattle.fd_walk.specs.Leaf.{MappedBy, leaf_of_kind, leaf_of_entry, leaf_of_height, leaf_below, leaf_at, table_of_kind, last_table}

@@ -2,7 +2,7 @@
 use Rattle.std.specs.Prelude.{◌≡◌, ℕ, Option, ◌+◌, ◌<◌, ◌≤◌}
 use Rattle.fd_pte.specs.declared.entry.Kind.{Kind}
 use Rattle.fd_pte.specs.declared.entry.Kind.TheVariants.{Table}
-use Rattle.fd_walk.specs.Tables.{PageTables, entry_at, kind_at}
+use Rattle.fd_walk.specs.PageTables.{PageTables, entry_at, kind_at}
 
 -- the entry names a table
 abbrev pub IsTable : Kind → Type 0

@@ -4,7 +4,7 @@ use Rattle.std.specs.Prelude.{ℕ, Option, Some, None, List, ◌+◌, ◌*◌, �
 use Rattle.std.specs.List.{flat_map, range_with_len}
 use Rattle.std.specs.Int.{w64, to_le_bytes}
 use Rattle.fd_pte.specs.Entry.{bytes_under}
-use Rattle.fd_walk.specs.Tables.{PageTables, entry_at}
+use Rattle.fd_walk.specs.PageTables.{PageTables, entry_at}
 use Rattle.fd_walk.specs.Leaf.{MappedBy, leaf_at}
 
 -- what a directory's entries are: of which height, and how a larger leaf is expanded
@@ -12,6 +12,7 @@ pub record DirectoryForm : Type 0 where
   pub height : ℕ
   pub expansion : ℕ → ℕ → ℕ → ℕ
 
+-- these two as one
 abbrev pub directory_form : ℕ → (ℕ → ℕ → ℕ → ℕ) → DirectoryForm
 directory_form height expansion = record { height = height; expansion = expansion }
 

@@ -3,7 +3,7 @@ use Rattle.std.specs.Prelude.{ℕ, zero, suc, Option, Some, None}
 use Rattle.std.specs.Option.{option_or, option_and_then}
 use Rattle.fd_pte.specs.declared.entry.Kind.{Kind}
 use Rattle.fd_pte.specs.declared.entry.Kind.TheVariants.{Table, Leaf}
-use Rattle.fd_walk.specs.Tables.{PageTables, entry_at, kind_at}
+use Rattle.fd_walk.specs.PageTables.{PageTables, entry_at, kind_at}
 
 -- a leaf: its height, its bits and the physical address of the memory that it maps
 pub record MappedBy : Type 0 where

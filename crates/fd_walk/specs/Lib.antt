@@ -1,6 +1,6 @@
 pub mod Descent
 pub mod Directory
 pub mod Leaf
+pub mod PageTables
 pub mod Ranges
 pub mod Step
-pub mod Tables

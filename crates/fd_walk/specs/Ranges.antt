@@ -4,7 +4,7 @@ use Rattle.std.specs.List.{filter_map, range_with_len}
 use Rattle.std.specs.Option.{option_and_then}
 use Rattle.fd_pte.specs.Entry.{bytes_under}
 use Rattle.fd_walk.specs.declared.leaf.Leaf.{Leaf}
-use Rattle.fd_walk.specs.Tables.{PageTables}
+use Rattle.fd_walk.specs.PageTables.{PageTables}
 use Rattle.fd_walk.specs.Leaf.{MappedBy, leaf_at, last_table}
 use Rattle.fd_walk.specs.Step.{first_under}
 

@@ -1,7 +1,7 @@
 //! Addresses, as page tables divide them.
 ghost use Rattle.std.specs.Prelude.{◌≡◌, ◌≤◌};
 ghost use Rattle.fd_pte.specs.Entry.{bytes_under};
-ghost use Rattle.fd_walk.specs.Tables.{index_at};
+ghost use Rattle.fd_walk.specs.PageTables.{index_at};
 
 /// The bytes of the addresses under one entry of a height.
 pub(crate) fn bytes_under(height: u32) -> u64

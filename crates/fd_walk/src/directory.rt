@@ -2,7 +2,7 @@
 ghost use Rattle.std.specs.Prelude.{◌≡◌, ◌≤◌, ◌%◌, ◌+◌, ◌*◌, ◌^◌, ◌++◌, take};
 ghost use Rattle.std.specs.Int.{w64, to_le_bytes};
 ghost use Rattle.fd_pte.specs.Entry.{bytes_under};
-ghost use Rattle.fd_walk.specs.Tables.{tables_of};
+ghost use Rattle.fd_walk.specs.PageTables.{tables_of};
 ghost use Rattle.fd_walk.specs.Directory.{directory_form, directory_entry, directory_bytes};
 
 use crate::address::bytes_under;

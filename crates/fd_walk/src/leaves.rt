@@ -2,7 +2,7 @@
 ghost use Rattle.std.specs.Prelude.{◌≡◌, ◌≤◌, ◌<◌, ◌%◌, ◌+◌, ◌-◌, ◌^◌, ◌++◌};
 ghost use Rattle.std.specs.Iterator.{YieldsFirst, item_count};
 ghost use Rattle.std.specs.Option.{option_to_list};
-ghost use Rattle.fd_walk.specs.Tables.{tables_of};
+ghost use Rattle.fd_walk.specs.PageTables.{tables_of};
 ghost use Rattle.fd_walk.specs.Ranges.{leaves_in};
 
 use crate::address::bytes_under;
@@ -26,7 +26,7 @@ pub struct Leaves<'a, M: Memory, E: Entry, const LEVELS: usize> {
 impl<'a, M: Memory, E: Entry, const LEVELS: usize> Model for Leaves<'a, M, E, LEVELS> {
     ghost use Rattle.std.specs.Prelude.{List};
     ghost use Rattle.fd_walk.specs.declared.leaf.Leaf.{Leaf};
-    ghost use Rattle.fd_walk.specs.Tables.{tables_of};
+    ghost use Rattle.fd_walk.specs.PageTables.{tables_of};
     ghost use Rattle.fd_walk.specs.Ranges.{leaves_in, IsRest};
 
     ghost Value = { List Leaf };

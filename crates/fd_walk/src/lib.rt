@@ -1,6 +1,7 @@
 //! Walks of page tables: what an address is mapped to, the pages of a minidump's directory, and the
-//! leaves and last-level tables of a range. One body serves every architecture of `fd_pte` over any
-//! `Memory`; no call takes memory.
+//! leaves and last-level tables of a range. One body serves every architecture of `fd_pte`, over any
+//! `Memory` of `fd_image`; no call takes memory. The walk follows the architectures' manuals, the
+//! directory FreeBSD's `minidump.h`.
 #![tactic(auto)]
 
 mod address;

@@ -2,7 +2,7 @@
 ghost use Rattle.std.specs.Prelude.{◌≡◌, ◌≤◌, ◌<◌, ◌%◌, ◌+◌, ◌^◌, ◌++◌};
 ghost use Rattle.std.specs.Iterator.{YieldsFirst, item_count};
 ghost use Rattle.std.specs.Option.{option_to_list};
-ghost use Rattle.fd_walk.specs.Tables.{tables_of};
+ghost use Rattle.fd_walk.specs.PageTables.{tables_of};
 ghost use Rattle.fd_walk.specs.Leaf.{table_of_kind};
 ghost use Rattle.fd_walk.specs.Ranges.{last_tables_in};
 
@@ -26,7 +26,7 @@ pub struct Tables<'a, M: Memory, E: Entry, const LEVELS: usize> {
 
 impl<'a, M: Memory, E: Entry, const LEVELS: usize> Model for Tables<'a, M, E, LEVELS> {
     ghost use Rattle.std.specs.Prelude.{ℕ, List};
-    ghost use Rattle.fd_walk.specs.Tables.{tables_of};
+    ghost use Rattle.fd_walk.specs.PageTables.{tables_of};
     ghost use Rattle.fd_walk.specs.Ranges.{last_tables_in, IsRest};
 
     ghost Value = { List ℕ };

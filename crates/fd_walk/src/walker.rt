@@ -1,7 +1,7 @@
 //! Walks from the topmost table down.
 ghost use Rattle.std.specs.Prelude.{◌≡◌, ◌≤◌, ◌<◌, ◌%◌, ℕ, Option, Some, None, MatchOption, IfSome, ◌^◌};
 ghost use Rattle.fd_pte.specs.Entry.{IsPlaced};
-ghost use Rattle.fd_walk.specs.Tables.{tables_of, kind_of_entry};
+ghost use Rattle.fd_walk.specs.PageTables.{tables_of, kind_of_entry};
 ghost use Rattle.fd_walk.specs.Descent.{IsReached};
 ghost use Rattle.fd_walk.specs.Leaf.{leaf_of_entry};
 ghost use Rattle.fd_walk.specs.Step.{step_at};

@@ -1,6 +1,6 @@
 -- Where no addresses are left, no leaves are.
 use Rattle.std.proofs.Common.{◌≡◌, ◌∙◌, [], ap, sym, arith}
-use Rattle.fd_walk.specs.Tables.{tables_of}
+use Rattle.fd_walk.specs.PageTables.{tables_of}
 use Rattle.fd_walk.specs.Ranges.{leaves_in}
 use Rattle.fd_walk.proofs.RangeParts.{leaves_in-none}
 use Rattle.fd_walk.proofs.leaves.LeavesIterator.next.Goals as goal

@@ -1,6 +1,6 @@
 -- Entries that are no leaves are passed, and the leaves that are left stay the same.
 use Rattle.std.proofs.Common.{◌≡◌}
-use Rattle.fd_walk.specs.Tables.{tables_of}
+use Rattle.fd_walk.specs.PageTables.{tables_of}
 use Rattle.fd_walk.specs.Ranges.{leaves_in, IsRest}
 use Rattle.fd_walk.proofs.leaves.LeavesIterator.next.Given as goal
 

@@ -1,6 +1,6 @@
 -- Where no addresses are left, no tables are.
 use Rattle.std.proofs.Common.{◌≡◌, ◌∙◌, [], ap, sym, arith}
-use Rattle.fd_walk.specs.Tables.{tables_of}
+use Rattle.fd_walk.specs.PageTables.{tables_of}
 use Rattle.fd_walk.specs.Ranges.{last_tables_in}
 use Rattle.fd_walk.proofs.RangeParts.{last_tables_in-none}
 use Rattle.fd_walk.proofs.tables.TablesIterator.next.Goals as goal

@@ -1,6 +1,6 @@
 -- Entries that name none are passed, and the tables that are left stay the same.
 use Rattle.std.proofs.Common.{◌≡◌}
-use Rattle.fd_walk.specs.Tables.{tables_of}
+use Rattle.fd_walk.specs.PageTables.{tables_of}
 use Rattle.fd_walk.specs.Ranges.{last_tables_in, IsRest}
 use Rattle.fd_walk.proofs.tables.TablesIterator.next.Given as goal
 

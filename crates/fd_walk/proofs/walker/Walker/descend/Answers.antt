@@ -1,6 +1,6 @@
 -- The walk starts in the topmost table, and goes on in the table that an entry names.
 use Rattle.std.proofs.Common.{◌∙◌, ◌+◌, ◌-◌, ◌*◌, sym, ap, arith}
-use Rattle.fd_walk.specs.Tables.{tables_of}
+use Rattle.fd_walk.specs.PageTables.{tables_of}
 use Rattle.fd_walk.proofs.Ways.{way_from_top, way_down}
 use Rattle.fd_walk.proofs.walker.Walker.descend.Goals as goal
 

@@ -1,6 +1,6 @@
 -- The walk goes down one height at a time, from entry to entry.
 use Rattle.std.proofs.Common.{◌≤◌, ◌-◌, ◌+◌, ◌^◌}
-use Rattle.fd_walk.specs.Tables.{tables_of}
+use Rattle.fd_walk.specs.PageTables.{tables_of}
 use Rattle.fd_walk.specs.Descent.{IsOnWay}
 use Rattle.fd_walk.proofs.walker.Walker.descend.Given as goal
 

@@ -1,7 +1,7 @@
 -- The walk ends at the entry itself, or at the leaf that is expanded.
 use Rattle.std.proofs.Common.{◌∙◌, ℕ, ◌%◌, ◌/◌, ap, arith}
 use Rattle.fd_pte.specs.Entry.{bytes_under}
-use Rattle.fd_walk.specs.Tables.{tables_of}
+use Rattle.fd_walk.specs.PageTables.{tables_of}
 use Rattle.fd_walk.specs.Directory.{directory_form}
 use Rattle.fd_walk.proofs.DirectoryEntries.{entry_stands, leaf_stands, unit_index_within}
 use Rattle.fd_walk.proofs.walker.Walker.directory_entry.Goals as goal

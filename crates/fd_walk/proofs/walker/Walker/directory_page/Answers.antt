@@ -1,7 +1,7 @@
 -- Entry by entry the page becomes the directory's.
 use Rattle.std.proofs.Common.{◌∙◌, ◌+◌, ◌*◌, ap, sym, arith}
 use Rattle.fd_pte.specs.Entry.{bytes_under}
-use Rattle.fd_walk.specs.Tables.{tables_of}
+use Rattle.fd_walk.specs.PageTables.{tables_of}
 use Rattle.fd_walk.specs.Directory.{directory_form, directory_entry, directory_bytes}
 use Rattle.fd_walk.proofs.DirectoryEntries.{page_grows, page_whole, directory_bytes-none}
 use Rattle.fd_walk.proofs.walker.Walker.directory_page.Goals as goal

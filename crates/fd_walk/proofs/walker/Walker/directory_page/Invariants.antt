@@ -1,6 +1,6 @@
 -- The page holds the entries so far.
 use Rattle.std.proofs.Common.{◌≡◌, ◌*◌, take, length}
-use Rattle.fd_walk.specs.Tables.{tables_of}
+use Rattle.fd_walk.specs.PageTables.{tables_of}
 use Rattle.fd_walk.specs.Directory.{directory_form, directory_bytes}
 use Rattle.fd_walk.proofs.walker.Walker.directory_page.Given as goal
 

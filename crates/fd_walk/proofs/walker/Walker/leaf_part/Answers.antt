@@ -1,6 +1,6 @@
 -- What the walk ended at is all that the first part of the range gives.
 use Rattle.std.proofs.Common.{◌∙◌, ◌∷◌, ◌+◌, ◌-◌, ap, arith}
-use Rattle.fd_walk.specs.Tables.{tables_of}
+use Rattle.fd_walk.specs.PageTables.{tables_of}
 use Rattle.fd_walk.proofs.RangeParts.{part_at, leaves_in-leaf, leaves_in-no_leaf, leaves_in-wrapped}
 use Rattle.fd_walk.proofs.walker.Walker.leaf_part.Goals as goal
 

@@ -1,7 +1,7 @@
 -- What the walk came to is the leaf of the address, or shows that it has none.
 use Rattle.std.proofs.Common.{◌∙◌, ◌-◌, ◌%◌, sym, ap}
 use Rattle.fd_walk.specs.declared.step.Step.TheVariants.{Leaf}
-use Rattle.fd_walk.specs.Tables.{tables_of}
+use Rattle.fd_walk.specs.PageTables.{tables_of}
 use Rattle.fd_walk.specs.Step.{step_of}
 use Rattle.fd_walk.proofs.Ways.{step_at-told}
 use Rattle.fd_walk.proofs.walker.Walker.lookup.Goals as goal

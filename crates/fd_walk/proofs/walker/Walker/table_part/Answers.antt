@@ -1,7 +1,7 @@
 -- What the walk ended at is all that the first part of the range gives.
 use Rattle.std.proofs.Common.{◌∙◌, ◌++◌, ◌+◌, ◌-◌, ap, arith}
 use Rattle.std.specs.Option.{option_to_list}
-use Rattle.fd_walk.specs.Tables.{tables_of}
+use Rattle.fd_walk.specs.PageTables.{tables_of}
 use Rattle.fd_walk.specs.Leaf.{table_of_kind}
 use Rattle.fd_walk.proofs.RangeParts.{last_tables_in-parts, last_tables_in-wrapped}
 use Rattle.fd_walk.proofs.walker.Walker.table_part.Goals as goal

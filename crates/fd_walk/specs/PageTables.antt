@@ -14,6 +14,7 @@ pub record PageTables : Type 0 where
   pub levels : ℕ
   pub root : ℕ
 
+-- these four as one
 abbrev pub tables_of : (ℕ → Option ℕ) → (ℕ → ℕ → Kind) → (levels root : ℕ) → PageTables
 tables_of word_at kind_of levels root = record { word_at = word_at; kind_of = kind_of; levels = levels; root = root }
 
