@@ -1,0 +1,7 @@
+-- What `insert` says of each name.
+use Rattle.std.proofs.Common.{arith}
+use Rattle.std.proofs.lemmas.Map.Text.{text_keys}
+use Rattle.fd_fake.proofs.directory.put_file.Goals as goal
+
+pub returns-clause-ok : goal.returns-clause-ok
+returns-clause-ok c = λ q. grind (arith, text_keys)

@@ -1,0 +1,4 @@
+pub mod Disk
+pub mod Entries
+pub mod Memory
+pub mod Stop

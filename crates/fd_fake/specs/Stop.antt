@@ -1,0 +1,24 @@
+-- A site that stops after a number of sectors.
+use Rattle.std.specs.Prelude.{ℕ, zero, suc, ◌*◌, Bool, List, [], ◌∷◌, take}
+use Rattle.fd_site.specs.Contents.{whole_part}
+use Rattle.fd_site.specs.Journal.{Entry}
+use Rattle.fd_fake.specs.declared.stop.StopSite.{StopSite}
+
+-- the sectors that are still passed, how often it failed a write itself, and whether a call of the inner site
+-- through it failed
+pub record StopState : Type 0 where
+  pub left : ℕ
+  pub faults : ℕ
+  pub inner_failed : Bool
+
+abbrev pub state_of : {S : Type 0} → StopSite S → StopState
+state_of s = record { left = s.left; faults = s.faults; inner_failed = s.inner_failed }
+
+-- the site to which its calls are passed
+abbrev pub inner_of : {S : Type 0} → StopSite S → S
+inner_of s = s.inner.now
+
+-- what it passes of the write in which it stops: the first sectors alone
+abbrev pub first_sectors : ℕ → ℕ → List ℕ → List Entry
+first_sectors zero at bytes = []
+first_sectors (suc n) at bytes = whole_part at (take (suc n * 512) bytes) ∷ []

@@ -1,0 +1,82 @@
+ghost use Rattle.std.specs.Prelude.{◌≡◌, ◌≤◌, IsTrue, ◌↔◌, true};
+ghost use Rattle.std.specs.Bool.{OnTrue, OnFalse};
+ghost use Rattle.fd_fake.specs.Memory.{IsDue, after_call, after_fault, no_calls, risen};
+
+use std::marker::Model;
+
+/// The calls of an object in memory that can fail, numbered from 1, and which of them do.
+#[derive(Drop)]
+pub struct Calls {
+    fails: Vec<u64>,
+    made: u64,
+    next: bool,
+    faults: u64,
+    starved: u64,
+}
+
+impl Model for Calls {
+    ghost use Rattle.fd_fake.specs.Memory.{CallCount};
+
+    ghost Value = { CallCount };
+
+    ghost view = { λ c. record { fails = c.fails.items; made = c.made; next = c.next; faults = c.faults; starved = c.starved } };
+}
+
+// One more, up to the end of 64 bits.
+fn risen_count(count: u64) -> u64
+    ensures { result ≡ risen count }
+{
+    count.saturating_add(1)
+}
+
+impl Calls {
+    pub fn new(fails: Vec<u64>) -> Calls
+        ensures { result ≡ no_calls fails.items }
+    {
+        Calls {
+            fails,
+            made: 0,
+            next: false,
+            faults: 0,
+            starved: 0,
+        }
+    }
+
+    /// Makes the next call fail.
+    pub fn fail_next(&mut self)
+        ensures { self.new ≡ record self.old { next = true } }
+    {
+        self.next = true;
+    }
+
+    /// Counts the next call, and answers whether it is one that fails.
+    pub fn next_fails(&mut self) -> bool
+        ensures due { IsTrue result ↔ IsDue self.old }
+        ensures fails { OnTrue result (self.new ≡ after_fault self.old) }
+        ensures goes_on { OnFalse result (self.new ≡ after_call self.old) }
+        ensures rising { self.old.faults ≤ self.new.faults }
+    {
+        self.made = risen_count(self.made);
+        let due = self.next || self.fails.contains(&self.made);
+        self.next = false;
+        if due {
+            self.faults = risen_count(self.faults);
+        }
+        due
+    }
+
+    /// Counts a fault for want of memory.
+    pub fn starve(&mut self)
+        ensures counted { self.new ≡ record self.old { faults = risen self.old.faults; starved = risen self.old.starved } }
+        ensures rising { self.old.faults ≤ self.new.faults }
+    {
+        self.faults = risen_count(self.faults);
+        self.starved = risen_count(self.starved);
+    }
+
+    pub fn starved(&self) -> u64
+        ensures { result ≡ self.now.starved }
+    {
+        self.starved
+    }
+}

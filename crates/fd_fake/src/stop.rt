@@ -1,0 +1,244 @@
+ghost use Rattle.std.specs.Prelude.{◌≡◌, ◌⊎◌, ◌+◌, ◌-◌, ◌*◌, ◌/◌, ◌<◌, ◌≤◌, ◌&&◌, [], ◌∷◌, length, false, true, not, nat_lt, IfOk, IfSome, IsSome, IsSomeAnd, IsTrue, OnOk, OnErr, slice_range};
+ghost use Rattle.std.specs.Option.{option_map};
+ghost use Rattle.fd_site.specs.Contents.{Adds, IsFailedFile, IsFailedPart, IsSectors, Told, file_of, part_of, whole_part, with_entries};
+ghost use Rattle.fd_site.specs.Fault.{Rose};
+ghost use Rattle.fd_site.specs.Journal.{Create, Sync, Write};
+ghost use Rattle.fd_site.specs.Name.{is_good_name};
+ghost use Rattle.fd_fake.specs.Memory.{risen};
+ghost use Rattle.fd_fake.specs.Stop.{first_sectors, inner_of, state_of};
+
+use fd_site::{Failed, Site};
+
+/// A site that passes the first sectors of partition writes to another, in order, and then stops: the write in which
+/// their number is used up passes its first sectors alone and fails, and every later one passes nothing and fails.
+/// All other calls are passed on.
+#[derive(Drop)]
+pub struct StopSite<'a, S: Site> {
+    inner: &'a mut S,
+    left: u64,
+    faults: u64,
+    inner_failed: bool,
+}
+
+impl<'a, S: Site> StopSite<'a, S> {
+    /// Passes so many sectors.
+    pub fn new(inner: &'a mut S, sectors: u64) -> StopSite<'a, S>
+        ensures inner { inner_of result ≡ inner.old }
+        ensures state { state_of result ≡ record { left = sectors; faults = 0; inner_failed = false } }
+    {
+        StopSite {
+            inner,
+            left: sectors,
+            faults: 0,
+            inner_failed: false,
+        }
+    }
+
+    /// Whether it failed a write itself, and no call of the inner site through it failed.
+    pub fn stopped(&self) -> bool
+        ensures { result ≡ (nat_lt 0 (state_of self.now).faults && not (state_of self.now).inner_failed) }
+    {
+        self.faults > 0 && !self.inner_failed
+    }
+
+    // Passes a write on.
+    fn pass(&mut self, at: u64, bytes: &[u8]) -> Result<(), Failed>
+        requires { IsSectors at (length bytes.now) (S.part_size (inner_of self.old)) }
+        ensures ok { OnOk result (S.told (inner_of self.new) ≡ with_entries (S.told (inner_of self.old)) (whole_part at bytes.now ∷ [])) }
+        ensures err { OnErr result (Adds (IsFailedPart at bytes.now) (S.told (inner_of self.old)) (S.told (inner_of self.new))) }
+        ensures size { S.part_size (inner_of self.new) ≡ S.part_size (inner_of self.old) }
+        ensures block { S.block_size (inner_of self.new) ≡ S.block_size (inner_of self.old) }
+        ensures count { S.faults (inner_of self.old) ≤ S.faults (inner_of self.new) }
+        ensures cause { OnErr result (Rose (S.faults (inner_of self.old)) (S.faults (inner_of self.new))) }
+        ensures ok_state { OnOk result (state_of self.new ≡ state_of self.old) }
+        ensures err_state { OnErr result (state_of self.new ≡ record (state_of self.old) { inner_failed = true }) }
+    {
+        match self.inner.write_part(at, bytes) {
+            Ok(()) => Ok(()),
+            Err(failed) => {
+                self.inner_failed = true;
+                Err(failed)
+            }
+        }
+    }
+
+    // Fails a write itself.
+    fn stop(&mut self) -> Failed
+        ensures inner { inner_of self.new ≡ inner_of self.old }
+        ensures state { state_of self.new ≡ record (state_of self.old) { faults = risen (state_of self.old).faults } }
+    {
+        self.faults = self.faults.saturating_add(1);
+        Failed
+    }
+}
+
+impl<'a, S: Site> Site for StopSite<'a, S> {
+    ghost told = { λ s. S.told (inner_of s) };
+
+    ghost faults = { λ s. S.faults (inner_of s) + (state_of s).faults };
+
+    ghost part_size = { λ s. S.part_size (inner_of s) };
+
+    ghost block_size = { λ s. S.block_size (inner_of s) };
+
+    fn size(&self) -> u64 {
+        self.inner.size()
+    }
+
+    fn block(&self) -> u32 {
+        self.inner.block()
+    }
+
+    fn read_part(&mut self, at: u64, out: &mut [u8]) -> Result<(), Failed>
+        requires { IsSectors at (length out.old) (S.part_size (inner_of self.old)) }
+        ensures bytes { OnOk result (Told (S.told (inner_of self.old)) (λ c. out.new ≡ slice_range (part_of c) at (at + length out.old))) }
+        ensures same { S.told (inner_of self.new) ≡ S.told (inner_of self.old) }
+        ensures size { S.part_size (inner_of self.new) ≡ S.part_size (inner_of self.old) }
+        ensures block { S.block_size (inner_of self.new) ≡ S.block_size (inner_of self.old) }
+        ensures count { (S.faults (inner_of self.old) + (state_of self.old).faults) ≤ (S.faults (inner_of self.new) + (state_of self.new).faults) }
+        ensures cause { OnErr result (Rose (S.faults (inner_of self.old) + (state_of self.old).faults) (S.faults (inner_of self.new) + (state_of self.new).faults)) }
+        ensures ok_state { OnOk result (state_of self.new ≡ state_of self.old) }
+        ensures err_state { OnErr result (state_of self.new ≡ record (state_of self.old) { inner_failed = true }) }
+    {
+        match self.inner.read_part(at, out) {
+            Ok(()) => Ok(()),
+            Err(failed) => {
+                self.inner_failed = true;
+                Err(failed)
+            }
+        }
+    }
+
+    #[tactic(auto, using(crate::proofs::Stopped::adds_first, crate::proofs::Stopped::adds_of_first, fd_site::proofs::Told::adds_no_part))]
+    fn write_part(&mut self, at: u64, bytes: &[u8]) -> Result<(), Failed>
+        requires { IsSectors at (length bytes.now) (S.part_size (inner_of self.old)) }
+        ensures ok { OnOk result (S.told (inner_of self.new) ≡ with_entries (S.told (inner_of self.old)) (whole_part at bytes.now ∷ [])) }
+        ensures err { OnErr result (Adds (IsFailedPart at bytes.now) (S.told (inner_of self.old)) (S.told (inner_of self.new))) }
+        ensures size { S.part_size (inner_of self.new) ≡ S.part_size (inner_of self.old) }
+        ensures block { S.block_size (inner_of self.new) ≡ S.block_size (inner_of self.old) }
+        ensures count { (S.faults (inner_of self.old) + (state_of self.old).faults) ≤ (S.faults (inner_of self.new) + (state_of self.new).faults) }
+        ensures cause { OnErr result (Rose (S.faults (inner_of self.old) + (state_of self.old).faults) (S.faults (inner_of self.new) + (state_of self.new).faults)) }
+        ensures fits { OnOk result (length bytes.now ≤ (state_of self.old).left * 512) }
+        ensures left { (state_of self.new).left ≡ (state_of self.old).left - length bytes.now / 512 }
+        ensures stops { (state_of self.old).left * 512 < length bytes.now → (state_of self.new).inner_failed ≡ true ⊎ (S.told (inner_of self.new) ≡ with_entries (S.told (inner_of self.old)) (first_sectors (state_of self.old).left at bytes.now)) }
+        ensures passes { length bytes.now ≤ (state_of self.old).left * 512 → (state_of self.new).faults ≡ (state_of self.old).faults }
+        ensures heeds { length bytes.now ≤ (state_of self.old).left * 512 → OnErr result ((state_of self.new).inner_failed ≡ true) }
+    {
+        let sectors = bytes.len() as u64 / 512;
+        let passed = self.left;
+        self.left = passed.saturating_sub(sectors);
+        if sectors <= passed {
+            return self.pass(at, bytes);
+        }
+        if passed == 0 {
+            return Err(self.stop());
+        }
+        self.pass(at, &bytes[..passed as usize * 512])?;
+        Err(self.stop())
+    }
+
+    fn file_len(&mut self, name: &str) -> Result<Option<u64>, Failed>
+        requires { IsTrue (is_good_name name.now) }
+        ensures len { IfOk result (λ len. Told (S.told (inner_of self.old)) (λ c. len ≡ option_map (λ file. length file) (file_of c name.now))) }
+        ensures same { S.told (inner_of self.new) ≡ S.told (inner_of self.old) }
+        ensures size { S.part_size (inner_of self.new) ≡ S.part_size (inner_of self.old) }
+        ensures block { S.block_size (inner_of self.new) ≡ S.block_size (inner_of self.old) }
+        ensures count { (S.faults (inner_of self.old) + (state_of self.old).faults) ≤ (S.faults (inner_of self.new) + (state_of self.new).faults) }
+        ensures cause { OnErr result (Rose (S.faults (inner_of self.old) + (state_of self.old).faults) (S.faults (inner_of self.new) + (state_of self.new).faults)) }
+        ensures ok_state { OnOk result (state_of self.new ≡ state_of self.old) }
+        ensures err_state { OnErr result (state_of self.new ≡ record (state_of self.old) { inner_failed = true }) }
+    {
+        match self.inner.file_len(name) {
+            Ok(len) => Ok(len),
+            Err(failed) => {
+                self.inner_failed = true;
+                Err(failed)
+            }
+        }
+    }
+
+    fn read_file(&mut self, name: &str, at: u64, out: &mut [u8]) -> Result<(), Failed>
+        requires name { IsTrue (is_good_name name.now) }
+        requires inside { Told (S.told (inner_of self.old)) (λ c. IsSomeAnd (file_of c name.now) (λ file. at + length out.old ≤ length file)) }
+        ensures bytes { OnOk result (Told (S.told (inner_of self.old)) (λ c. IfSome (file_of c name.now) (λ file. out.new ≡ slice_range file at (at + length out.old)))) }
+        ensures same { S.told (inner_of self.new) ≡ S.told (inner_of self.old) }
+        ensures size { S.part_size (inner_of self.new) ≡ S.part_size (inner_of self.old) }
+        ensures block { S.block_size (inner_of self.new) ≡ S.block_size (inner_of self.old) }
+        ensures count { (S.faults (inner_of self.old) + (state_of self.old).faults) ≤ (S.faults (inner_of self.new) + (state_of self.new).faults) }
+        ensures cause { OnErr result (Rose (S.faults (inner_of self.old) + (state_of self.old).faults) (S.faults (inner_of self.new) + (state_of self.new).faults)) }
+        ensures ok_state { OnOk result (state_of self.new ≡ state_of self.old) }
+        ensures err_state { OnErr result (state_of self.new ≡ record (state_of self.old) { inner_failed = true }) }
+    {
+        match self.inner.read_file(name, at, out) {
+            Ok(()) => Ok(()),
+            Err(failed) => {
+                self.inner_failed = true;
+                Err(failed)
+            }
+        }
+    }
+
+    fn create(&mut self, name: &str) -> Result<(), Failed>
+        requires { IsTrue (is_good_name name.now) }
+        ensures ok { OnOk result (S.told (inner_of self.new) ≡ with_entries (S.told (inner_of self.old)) (Create name.now ∷ [])) }
+        ensures err { OnErr result (Adds (IsFailedFile name.now) (S.told (inner_of self.old)) (S.told (inner_of self.new))) }
+        ensures size { S.part_size (inner_of self.new) ≡ S.part_size (inner_of self.old) }
+        ensures block { S.block_size (inner_of self.new) ≡ S.block_size (inner_of self.old) }
+        ensures count { (S.faults (inner_of self.old) + (state_of self.old).faults) ≤ (S.faults (inner_of self.new) + (state_of self.new).faults) }
+        ensures cause { OnErr result (Rose (S.faults (inner_of self.old) + (state_of self.old).faults) (S.faults (inner_of self.new) + (state_of self.new).faults)) }
+        ensures ok_state { OnOk result (state_of self.new ≡ state_of self.old) }
+        ensures err_state { OnErr result (state_of self.new ≡ record (state_of self.old) { inner_failed = true }) }
+    {
+        match self.inner.create(name) {
+            Ok(()) => Ok(()),
+            Err(failed) => {
+                self.inner_failed = true;
+                Err(failed)
+            }
+        }
+    }
+
+    fn write_file(&mut self, name: &str, at: u64, bytes: &[u8]) -> Result<(), Failed>
+        requires name { IsTrue (is_good_name name.now) }
+        requires there { Told (S.told (inner_of self.old)) (λ c. IsSome (file_of c name.now)) }
+        ensures ok { OnOk result (S.told (inner_of self.new) ≡ with_entries (S.told (inner_of self.old)) (Write name.now at bytes.now ∷ [])) }
+        ensures err { OnErr result (Adds (IsFailedFile name.now) (S.told (inner_of self.old)) (S.told (inner_of self.new))) }
+        ensures size { S.part_size (inner_of self.new) ≡ S.part_size (inner_of self.old) }
+        ensures block { S.block_size (inner_of self.new) ≡ S.block_size (inner_of self.old) }
+        ensures count { (S.faults (inner_of self.old) + (state_of self.old).faults) ≤ (S.faults (inner_of self.new) + (state_of self.new).faults) }
+        ensures cause { OnErr result (Rose (S.faults (inner_of self.old) + (state_of self.old).faults) (S.faults (inner_of self.new) + (state_of self.new).faults)) }
+        ensures ok_state { OnOk result (state_of self.new ≡ state_of self.old) }
+        ensures err_state { OnErr result (state_of self.new ≡ record (state_of self.old) { inner_failed = true }) }
+    {
+        match self.inner.write_file(name, at, bytes) {
+            Ok(()) => Ok(()),
+            Err(failed) => {
+                self.inner_failed = true;
+                Err(failed)
+            }
+        }
+    }
+
+    fn sync_file(&mut self, name: &str) -> Result<(), Failed>
+        requires name { IsTrue (is_good_name name.now) }
+        requires there { Told (S.told (inner_of self.old)) (λ c. IsSome (file_of c name.now)) }
+        ensures ok { OnOk result (S.told (inner_of self.new) ≡ with_entries (S.told (inner_of self.old)) (Sync name.now ∷ [])) }
+        ensures err { OnErr result (Adds (IsFailedFile name.now) (S.told (inner_of self.old)) (S.told (inner_of self.new))) }
+        ensures size { S.part_size (inner_of self.new) ≡ S.part_size (inner_of self.old) }
+        ensures block { S.block_size (inner_of self.new) ≡ S.block_size (inner_of self.old) }
+        ensures count { (S.faults (inner_of self.old) + (state_of self.old).faults) ≤ (S.faults (inner_of self.new) + (state_of self.new).faults) }
+        ensures cause { OnErr result (Rose (S.faults (inner_of self.old) + (state_of self.old).faults) (S.faults (inner_of self.new) + (state_of self.new).faults)) }
+        ensures ok_state { OnOk result (state_of self.new ≡ state_of self.old) }
+        ensures err_state { OnErr result (state_of self.new ≡ record (state_of self.old) { inner_failed = true }) }
+    {
+        match self.inner.sync_file(name) {
+            Ok(()) => Ok(()),
+            Err(failed) => {
+                self.inner_failed = true;
+                Err(failed)
+            }
+        }
+    }
+
+    ghost told_size = { λ s c is. S.told_size (inner_of s) c is };
+}
