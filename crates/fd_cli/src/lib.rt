@@ -15,3 +15,6 @@ pub use command::Command;
 pub use refusal::Refusal;
 pub use run::crashway;
 pub use word::Word;
+
+#[cfg(test)]
+mod tests;

@@ -14,12 +14,12 @@ length-merged [] (b ∷ bs) old whole le = length-take-le (length (b ∷ bs)) ol
 length-merged (true ∷ ks) (b ∷ bs) old whole le =
     let new = b ∷ bs in
     let rest : length (merged ks (drop 512 new) (drop 512 old)) ≡ length (drop 512 new) =
-        length-merged ks (drop 512 new) (drop 512 old) (omega (arith, length-drop 512 new)) (omega (arith, length-drop 512 new, length-drop 512 old)) in
+    length-merged ks (drop 512 new) (drop 512 old) (omega (arith, length-drop 512 new)) (omega (arith, length-drop 512 new, length-drop 512 old)) in
     omega (arith, rest, length-append (take 512 new) (merged ks (drop 512 new) (drop 512 old)), length-take-le 512 new (omega arith), length-drop 512 new)
 length-merged (false ∷ ks) (b ∷ bs) old whole le =
     let new = b ∷ bs in
     let rest : length (merged ks (drop 512 new) (drop 512 old)) ≡ length (drop 512 new) =
-        length-merged ks (drop 512 new) (drop 512 old) (omega (arith, length-drop 512 new)) (omega (arith, length-drop 512 new, length-drop 512 old)) in
+    length-merged ks (drop 512 new) (drop 512 old) (omega (arith, length-drop 512 new)) (omega (arith, length-drop 512 new, length-drop 512 old)) in
     omega (arith, rest, length-append (take 512 old) (merged ks (drop 512 new) (drop 512 old)), length-take-le 512 old (omega arith), length-drop 512 new)
 
 -- where every sector was kept, the new bytes stand
@@ -65,5 +65,5 @@ pub between-part_after : (c : Contents) (at : ℕ) (bytes : List ℕ) → length
     → between at (at + length bytes) (part_after c.base_part (c.journal ++ whole_part at bytes ∷ [])) ≡ bytes
 between-part_after c at bytes whole le =
     let now : part_after c.base_part (c.journal ++ whole_part at bytes ∷ []) ≡ put_mid at (length bytes) (part_of c) bytes =
-        part_after-append c.base_part c.journal (whole_part at bytes ∷ []) ∙ written-all_kept (part_of c) at bytes whole in
+    part_after-append c.base_part c.journal (whole_part at bytes ∷ []) ∙ written-all_kept (part_of c) at bytes whole in
     ap (λ (l : List ℕ). between at (at + length bytes) l) now ∙ between-put_mid at (length bytes) (part_of c) bytes (at + length bytes) (omega arith) (omega arith)

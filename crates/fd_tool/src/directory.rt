@@ -5,13 +5,12 @@ ghost use Rattle.fd_site.specs.Contents.{nothing_told};
 ghost use Rattle.fd_site.specs.Fault.{Rose};
 
 use fd_site::{Failed, Site};
-use std::fs;
 use std::fs::{File, OpenOptions};
-use std::io;
 use std::io::{ErrorKind, Seek, SeekFrom};
 use std::os::unix::fs::FileExt;
 use std::path::PathBuf;
 use std::rt::Files;
+use std::{fs, io};
 
 /// A directory whose file `dumpdev` is the partition. The partition stays open, and so does the file that was used last.
 #[derive(Drop)]
@@ -53,9 +52,11 @@ fn is_missing(e: &io::Error) -> bool {
 // The file at a path, to be read and written, or read alone where it can't be written.
 fn open_file<R: Files<File = File>>(rt: &R, path: &PathBuf) -> io::Result<File> {
     match OpenOptions::new().read(true).write(true).open(rt, path) {
-        Err(e) if matches!(e.kind(), ErrorKind::PermissionDenied | ErrorKind::ReadOnlyFilesystem) => {
-            File::open(rt, path)
-        }
+        Err(e)
+            if matches!(
+                e.kind(),
+                ErrorKind::PermissionDenied | ErrorKind::ReadOnlyFilesystem
+            ) => { File::open(rt, path) }
         opened => opened,
     }
 }
@@ -137,7 +138,11 @@ fn create<R: Files<File = File> + AllocGlobal>(
     Ok(())
 }
 
-fn file_len<R: Files<File = File> + AllocGlobal>(rt: &R, directory: &PathBuf, name: &str) -> io::Result<Option<u64>> {
+fn file_len<R: Files<File = File> + AllocGlobal>(
+    rt: &R,
+    directory: &PathBuf,
+    name: &str,
+) -> io::Result<Option<u64>> {
     match fs::metadata(rt, &directory.join(rt.alloc(), name)?) {
         Ok(metadata) => Ok(Some(metadata.len())),
         Err(e) if is_missing(&e) => Ok(None),
@@ -146,7 +151,11 @@ fn file_len<R: Files<File = File> + AllocGlobal>(rt: &R, directory: &PathBuf, na
 }
 
 // Syncs the file that is held, and the directory, which has its name.
-fn sync<R: Files<File = File>>(rt: &R, directory: &PathBuf, last: &Option<Named>) -> io::Result<()> {
+fn sync<R: Files<File = File>>(
+    rt: &R,
+    directory: &PathBuf,
+    last: &Option<Named>,
+) -> io::Result<()> {
     match last {
         Some(held) => held.file.sync_all()?,
         None => return Err(io::Error::from(ErrorKind::NotFound)),
