@@ -14,7 +14,7 @@ use crate::writes::{write_bytes, write_pieces};
 use fd_kdh::{Header, encode};
 use fd_site::{Failed, Pieces, Site};
 
-/// A dump leaves so many bytes at the partition's start alone.
+/// The bytes at the partition's start that no dump touches (`SIZEOF_METADATA` of `kern_shutdown.c`).
 const UNTOUCHED: u64 = 65536;
 
 // A header's bytes, and zeros to the end of the largest block.

@@ -1,6 +1,7 @@
 //! A dump on a partition: whether one can be there, and its writer. The dump stands between two header blocks at the
 //! partition's end; it is written body first, then the leading block, then the trailing one, so that a machine that
-//! stops leaves no header over half a dump. It follows FreeBSD's `kern_dump.c` and `kerneldump.h`.
+//! stops leaves no header over half a dump. It stands on the site of `fd_site` and the headers of `fd_kdh`, and
+//! follows FreeBSD's `sys/kern/kern_shutdown.c` and `sys/kerneldump.h`.
 #![tactic(auto)]
 
 mod dump;
