@@ -1,11 +1,11 @@
 //! What is printed, and which status follows, over partitions in memory.
 
-ghost use Rattle.std.specs.Prelude.{◌≡◌, ◌+◌, ◌<◌, ◌≤◌, ◌^◌, length};
+ghost use Rattle.std.specs.Prelude.{◌≡◌, [], length, IfOk};
 ghost use Rattle.fd_kdh.specs.Header.{FitsFields};
 
 use super::{Word, crashway};
 use fd_bytes::{Arch, Label};
-use fd_fake::{MemSink, MemSite, StopSite};
+use fd_fake::{MemSink, MemSite, NoMemory, StopSite};
 use fd_kdh::{Header, TEXT_MAGIC, encode};
 use fd_part::{good_partition, write_dump};
 use fd_site::{NoNet, Site, SlicePieces};
@@ -34,20 +34,30 @@ fn header(block: u32) -> Header
     }
 }
 
+// A zero partition of which the calls of these numbers fail.
+fn failing_partition(
+    alloc: Global,
+    size: u64,
+    block: u32,
+    fails: Vec<u64>,
+) -> Result<MemSite, NoMemory>
+    ensures fresh { IfOk result (λ site. site.disk.journal ≡ []) }
+    ensures size { IfOk result (λ site. length site.disk.base_part ≡ size) }
+{
+    MemSite::new(alloc, size, block, fails)
+}
+
 // A zero partition.
-fn partition(alloc: Global, size: u64, block: u32) -> Result<MemSite, Fail> {
-    Ok(MemSite::new(alloc, size, block, Vec::new(alloc))?)
+fn partition(alloc: Global, size: u64, block: u32) -> Result<MemSite, NoMemory>
+    ensures fresh { IfOk result (λ site. site.disk.journal ≡ []) }
+    ensures size { IfOk result (λ site. length site.disk.base_part ≡ size) }
+{
+    failing_partition(alloc, size, block, Vec::new(alloc))
 }
 
 // A partition of 131072 bytes with blocks of 512 that has these two sectors where a dump of 32768 bytes has its headers.
-fn with_headers(
-    rt: &impl Abort,
-    alloc: Global,
-    trailing: &[u8; 512],
-    leading: &[u8; 512],
-) -> Result<MemSite, Fail> {
+fn with_headers(alloc: Global, trailing: &[u8; 512], leading: &[u8; 512]) -> Result<MemSite, Fail> {
     let mut site = partition(alloc, 131072, 512)?;
-    assert_eq!(rt; site.size(), 131072);
     site.preset_part(130560, trailing);
     site.preset_part(97280, leading);
     Ok(site)
@@ -83,7 +93,7 @@ fn judges(
     status: u8,
     text: &str,
 ) -> Result<(), Fail> {
-    let mut site = with_headers(rt, alloc, trailing, leading)?;
+    let mut site = with_headers(alloc, trailing, leading)?;
     check(rt, alloc, &mut site, &["savecore", "-C"], status, text)
 }
 
@@ -100,7 +110,6 @@ fn a_dump_is_found_in_a_partition_of_64_mib(rt: HostRuntime) -> Result<(), Fail>
         1,
         "refused 1: no dump\n",
     )?;
-    assert_eq!(rt; site.size(), 67108864);
     site.preset_part(67108352, &bytes);
     site.preset_part(67075072, &bytes);
     check(
@@ -192,7 +201,6 @@ fn only_the_first_sector_of_a_leading_block_counts(rt: HostRuntime) -> Result<()
     let alloc = rt.alloc();
     let bytes = encode(&header(4096));
     let mut site = partition(alloc, 106496, 4096)?;
-    assert_eq!(rt; site.size(), 106496);
     site.preset_part(102400, &bytes);
     site.preset_part(65536, &bytes);
     site.preset_part(66048, b"x");
@@ -258,8 +266,7 @@ fn a_fault_of_the_outside_is_no_verdict(rt: HostRuntime) -> Result<(), Fail> {
     for failing in 1..3 {
         let live = encode(&header(512));
         let fails = vec![in alloc; failing]?;
-        let mut site = MemSite::new(alloc, 131072, 512, fails)?;
-        assert_eq!(rt; site.size(), 131072);
+        let mut site = failing_partition(alloc, 131072, 512, fails)?;
         site.preset_part(130560, &live);
         site.preset_part(97280, &live);
         check(&rt, alloc, &mut site, &["savecore", "-C"], 74, "")?;

@@ -69,7 +69,8 @@ impl MemSite {
     pub fn preset_part(&mut self, at: u64, bytes: &[u8])
         requires fresh { self.old.disk.journal ≡ [] }
         requires inside { at + length bytes.now ≤ length self.old.disk.base_part }
-        ensures { self.new ≡ record self.old { disk = record self.old.disk { base_part = take at self.old.disk.base_part ++ (bytes.now ++ drop (length bytes.now) (drop at self.old.disk.base_part)) } } }
+        ensures part { self.new ≡ record self.old { disk = record self.old.disk { base_part = take at self.old.disk.base_part ++ (bytes.now ++ drop (length bytes.now) (drop at self.old.disk.base_part)) } } }
+        ensures size { length self.new.disk.base_part ≡ length self.old.disk.base_part }
     {
         self.disk.preset_part(at, bytes);
     }
