@@ -1,7 +1,8 @@
 -- A site that stops after a number of sectors.
-use Rattle.std.specs.Prelude.{ℕ, zero, suc, ◌*◌, Bool, List, [], ◌∷◌, take}
-use Rattle.fd_site.specs.Contents.{whole_part}
+use Rattle.std.specs.Prelude.{◌≡◌, ℕ, zero, suc, ◌-◌, ◌*◌, ◌/◌, ◌<◌, Bool, List, [], ◌∷◌, length, take, Option}
+use Rattle.fd_site.specs.Contents.{Contents, whole_part, with_entries}
 use Rattle.fd_site.specs.Journal.{Entry}
+use Rattle.fd_fake.specs.Memory.{risen}
 use Rattle.fd_fake.specs.declared.stop.StopSite.{StopSite}
 
 -- the sectors that are still passed, how often it failed a write itself, and whether a call of the inner site
@@ -22,3 +23,13 @@ inner_of s = s.inner.now
 abbrev pub first_sectors : ℕ → ℕ → List ℕ → List Entry
 first_sectors zero at bytes = []
 first_sectors (suc n) at bytes = whole_part at (take (suc n * 512) bytes) ∷ []
+
+-- after a write that was passed whole
+abbrev pub after_passing : StopState → List ℕ → StopState
+after_passing s bytes = record s { left = s.left - length bytes / 512 }
+
+-- a write in which it stops, or after which it has stopped: the sectors that were left are passed
+pub record Stops (old new : StopState) (told_old told_new : Option Contents) (at : ℕ) (bytes : List ℕ) : Type 0 where
+  pub used_up : old.left * 512 < length bytes
+  pub state : new ≡ record old { left = 0; faults = risen old.faults }
+  pub told : told_new ≡ with_entries told_old (first_sectors old.left at bytes)

@@ -11,6 +11,8 @@ mod entry;
 mod memory;
 mod sink;
 mod stop;
+#[cfg(test)]
+mod tests;
 
 pub use memory::{MemSite, NoMemory};
 pub use sink::MemSink;

@@ -5,7 +5,7 @@ ghost use Rattle.fd_site.specs.Fault.{Rose};
 ghost use Rattle.fd_site.specs.Journal.{Create, Sync, Write};
 ghost use Rattle.fd_site.specs.Name.{is_good_name};
 ghost use Rattle.fd_fake.specs.Memory.{risen};
-ghost use Rattle.fd_fake.specs.Stop.{first_sectors, inner_of, state_of};
+ghost use Rattle.fd_fake.specs.Stop.{Stops, after_passing, inner_of, state_of};
 
 use fd_site::{Failed, Site};
 
@@ -119,10 +119,8 @@ impl<'a, S: Site> Site for StopSite<'a, S> {
         ensures count { (S.faults (inner_of self.old) + (state_of self.old).faults) ≤ (S.faults (inner_of self.new) + (state_of self.new).faults) }
         ensures cause { OnErr result (Rose (S.faults (inner_of self.old) + (state_of self.old).faults) (S.faults (inner_of self.new) + (state_of self.new).faults)) }
         ensures fits { OnOk result (length bytes.now ≤ (state_of self.old).left * 512) }
-        ensures left { (state_of self.new).left ≡ (state_of self.old).left - length bytes.now / 512 }
-        ensures stops { (state_of self.old).left * 512 < length bytes.now → (state_of self.new).inner_failed ≡ true ⊎ (S.told (inner_of self.new) ≡ with_entries (S.told (inner_of self.old)) (first_sectors (state_of self.old).left at bytes.now)) }
-        ensures passes { length bytes.now ≤ (state_of self.old).left * 512 → (state_of self.new).faults ≡ (state_of self.old).faults }
-        ensures heeds { length bytes.now ≤ (state_of self.old).left * 512 → OnErr result ((state_of self.new).inner_failed ≡ true) }
+        ensures ok_state { OnOk result (state_of self.new ≡ after_passing (state_of self.old) bytes.now) }
+        ensures err_state { OnErr result ((state_of self.new ≡ record (after_passing (state_of self.old) bytes.now) { inner_failed = true }) ⊎ Stops (state_of self.old) (state_of self.new) (S.told (inner_of self.old)) (S.told (inner_of self.new)) at bytes.now) }
     {
         let sectors = bytes.len() as u64 / 512;
         let passed = self.left;
