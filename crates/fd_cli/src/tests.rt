@@ -101,25 +101,13 @@ fn judges(
 fn a_dump_is_found_in_a_partition_of_64_mib(rt: HostRuntime) -> Result<(), Fail> {
     let alloc = rt.alloc();
     let bytes = encode(&header(512));
-    let mut site = partition(alloc, 67108864, 512)?;
-    check(
-        &rt,
-        alloc,
-        &mut site,
-        &["savecore", "-C"],
-        1,
-        "refused 1: no dump\n",
-    )?;
-    site.preset_part(67108352, &bytes);
-    site.preset_part(67075072, &bytes);
-    check(
-        &rt,
-        alloc,
-        &mut site,
-        &["savecore", "-C"],
-        0,
-        "dump 32768\n",
-    )
+    let mut empty = partition(alloc, 67108864, 512)?;
+    let mut dumped = partition(alloc, 67108864, 512)?;
+    dumped.preset_part(67108352, &bytes);
+    dumped.preset_part(67075072, &bytes);
+    let words = ["savecore", "-C"];
+    check(&rt, alloc, &mut empty, &words, 1, "refused 1: no dump\n")?;
+    check(&rt, alloc, &mut dumped, &words, 0, "dump 32768\n")
 }
 
 #[test]

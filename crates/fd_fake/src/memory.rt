@@ -71,6 +71,7 @@ impl MemSite {
         requires inside { at + length bytes.now ≤ length self.old.disk.base_part }
         ensures part { self.new ≡ record self.old { disk = record self.old.disk { base_part = take at self.old.disk.base_part ++ (bytes.now ++ drop (length bytes.now) (drop at self.old.disk.base_part)) } } }
         ensures size { length self.new.disk.base_part ≡ length self.old.disk.base_part }
+        ensures journal { self.new.disk.journal ≡ [] }
     {
         self.disk.preset_part(at, bytes);
     }
