@@ -1,44 +1,45 @@
 #!/usr/bin/env bash
-# `savecore -C` over a sparse partition of 1 TiB, beside dd that reads as many sectors of it: seconds and peak
-# memory of each, and their ratio. The first argument is how many runs are timed (20 if it is left out).
+# `savecore -C` over a sparse partition of 1 TiB, beside dd that reads as many sectors of it: the least milliseconds
+# of a run, the peak memory, and their ratios. The first argument is how many runs are timed (20 if it is left out).
+# It needs GNU time and python3.
 set -eu
 top=$(cd "$(dirname "$0")/.." && pwd)
 runs=${1:-20}
 folder=$(mktemp -d)
 trap 'rm -rf "$folder"' EXIT
 
-size=$((1 << 40))
-cp "$top/crates/fd_tool/data/dumpdev" "$folder/small"
-truncate -s "$size" "$folder/dumpdev"
-# the stored partition's two headers, behind and before a dump of 512 bytes
-dd if="$folder/small" of="$folder/dumpdev" bs=512 skip=130 seek=$((size / 512 - 1)) count=1 conv=notrunc status=none
-dd if="$folder/small" of="$folder/dumpdev" bs=512 skip=128 seek=$((size / 512 - 3)) count=1 conv=notrunc status=none
+# The stored partition's two headers, before and behind a dump of 512 bytes, at the end of 1 TiB.
+small=$top/crates/fd_tool/data/dumpdev
+sectors=$(((1 << 40) / 512))
+truncate -s "$((sectors * 512))" "$folder/dumpdev"
+dd if="$small" of="$folder/dumpdev" bs=512 skip=128 seek=$((sectors - 3)) count=1 conv=notrunc status=none
+dd if="$small" of="$folder/dumpdev" bs=512 skip=130 seek=$((sectors - 1)) count=1 conv=notrunc status=none
 
 "$top/crashway" "$folder" 512 savecore -C
-python3 - "$top/crates/fd_tool/out/fd_tool" "$folder" "$size" "$runs" <<'PY'
-import os, subprocess, sys, time
+ours=("$top/crates/fd_tool/out/fd_tool" "$folder" 512 savecore -C)
+theirs=(dd "if=$folder/dumpdev" of=/dev/null bs=512 "skip=$((sectors - 3))" count=2 status=none)
 
-program, folder, size, runs = sys.argv[1], sys.argv[2], int(sys.argv[3]), int(sys.argv[4])
-ours = [program, folder, "512", "savecore", "-C"]
-theirs = ["dd", f"if={folder}/dumpdev", "of=/dev/null", "bs=512", f"skip={size // 512 - 3}", "count=2", "status=none"]
+milliseconds() {
+    python3 - "$runs" "$@" <<'PY'
+import subprocess, sys, time
 
-
-def timed(command):
-    least, memory = None, 0
-    for _ in range(runs):
-        begin = time.perf_counter()
-        child = subprocess.Popen(command, stdout=subprocess.DEVNULL)
-        _, status, usage = os.wait4(child.pid, 0)
-        took = time.perf_counter() - begin
-        child.returncode = os.waitstatus_to_exitcode(status)
-        assert child.returncode == 0, command
-        least = took if least is None else min(least, took)
-        memory = max(memory, usage.ru_maxrss)
-    return least, memory
-
-
-mine, dd = timed(ours), timed(theirs)
-print(f"savecore -C  {mine[0] * 1000:6.2f} ms  {mine[1]:6d} KiB")
-print(f"dd           {dd[0] * 1000:6.2f} ms  {dd[1]:6d} KiB")
-print(f"ratio        {mine[0] / dd[0]:6.2f}     {mine[1] / dd[1]:6.2f}")
+runs, command = int(sys.argv[1]), sys.argv[2:]
+times = []
+for _ in range(runs):
+    begin = time.perf_counter()
+    subprocess.run(command, stdout=subprocess.DEVNULL, check=True)
+    times.append(time.perf_counter() - begin)
+print(f"{min(times) * 1000:.2f}")
 PY
+}
+
+kibibytes() {
+    /usr/bin/time -f %M -o "$folder/peak" "$@" >/dev/null
+    cat "$folder/peak"
+}
+
+our_time=$(milliseconds "${ours[@]}") their_time=$(milliseconds "${theirs[@]}")
+our_peak=$(kibibytes "${ours[@]}") their_peak=$(kibibytes "${theirs[@]}")
+echo "savecore -C  $our_time ms  $our_peak KiB"
+echo "dd           $their_time ms  $their_peak KiB"
+awk "BEGIN { printf \"ratio        %.2f     %.2f\n\", $our_time / $their_time, $our_peak / $their_peak }"
