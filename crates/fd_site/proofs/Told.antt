@@ -1,5 +1,5 @@
 -- What is told after more.
-use Rattle.std.proofs.Common.{◌≡◌, inl, inr, ℕ, ◌*◌, ◌≤◌, ◌%◌, ◌/◌, Bool, List, [], ◌∷◌, ◌++◌, length, take, Option, Some, None, refl, sym, ◌∙◌, ap, append_assoc, arith}
+use Rattle.std.proofs.Common.{◌≡◌, inl, ℕ, List, [], ◌∷◌, ◌++◌, Option, Some, None, refl, sym, ◌∙◌, ap, append_assoc}
 use Rattle.std.proofs.lemmas.List.{append-nil}
 use Rattle.fd_site.specs.Contents.{Contents, Adds, IsFailedPart, IsFailedFile, part_of, file_of, with_entries}
 use Rattle.fd_site.specs.Journal.{Entry, part_after, file_after, file_step}

@@ -1,10 +1,10 @@
 -- What a write leaves of a partition.
-use Rattle.std.proofs.Common.{◌≡◌, ◌⊎◌, inl, inr, ℕ, zero, suc, ◌+◌, ◌-◌, ◌*◌, ◌/◌, ◌%◌, ◌≤◌, Bool, true, false, List, [], ◌∷◌, ◌++◌, length, take, drop, replicate, refl, sym, ◌∙◌, ap, arith, length-append, length-drop, take-append-drop}
-use Rattle.std.proofs.lemmas.List.{append-nil, length-take-le, nil_from_length, length-replicate}
+use Rattle.std.proofs.Common.{◌≡◌, ℕ, zero, suc, ◌+◌, ◌*◌, ◌/◌, ◌%◌, ◌≤◌, Bool, true, false, List, [], ◌∷◌, ◌++◌, length, take, drop, replicate, refl, sym, ◌∙◌, ap, arith, length-append, length-drop, take-append-drop}
+use Rattle.std.proofs.lemmas.List.{length-take-le}
 use Rattle.std.proofs.lemmas.Slice.{take-put_mid_below, drop-put_mid, between-put_mid}
 use Rattle.std.specs.List.{between}
 use borrow.Rule.Slice.PartMut.{put_mid}
-use Rattle.fd_site.specs.Journal.{Entry, Part, merged, all_kept, written, part_step, part_after}
+use Rattle.fd_site.specs.Journal.{Entry, merged, all_kept, written, part_step, part_after}
 use Rattle.fd_site.specs.Contents.{Contents, part_of, whole_part}
 
 -- what is merged into as many bytes has as many

@@ -1,5 +1,5 @@
 -- What was asked of a link and of a set of ports, in order. A call that failed added nothing.
-use Rattle.std.specs.Prelude.{ℕ, List, [], ◌∷◌, ◌++◌, Option, Some, None}
+use Rattle.std.specs.Prelude.{ℕ, List, ◌++◌, Option, Some, None}
 use Rattle.fd_site.specs.declared.ports.Peer.{Peer}
 
 -- of a link: it was opened to a server's IPv4 address, a datagram was sent to a port of the server, a poll got
