@@ -1,5 +1,6 @@
 pub mod Amd64
 pub mod Amd64Laws
+pub mod Architecture
 pub mod Arm64
 pub mod Arm64Laws
 pub mod BitLaws
