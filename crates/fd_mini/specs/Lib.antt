@@ -1,3 +1,4 @@
+pub mod Kernel
 pub mod Layout
 pub mod Page
 pub mod Places

@@ -1,7 +1,9 @@
 //! The header page of a minidump, both ways, and the places of the sections that follow it, for the current
-//! versions of amd64, arm64 and riscv: `struct minidumphdr` of each architecture's `minidump.h`.
+//! versions of amd64, arm64 and riscv: `struct minidumphdr` of each architecture's `minidump.h`. What a read of kernel
+//! addresses gives is defined here too, for images and for files alike.
 #![tactic(auto)]
 
+mod address_fault;
 mod front;
 mod header;
 mod law;
@@ -12,6 +14,7 @@ mod read;
 mod tests;
 mod write;
 
+pub use address_fault::AddressFault;
 pub use header::MiniHeader;
 pub use law::each_header_is_read_back;
 pub use places::{Places, places_of};
