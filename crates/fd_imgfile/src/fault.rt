@@ -1,0 +1,18 @@
+//! Why no image was read.
+use fd_image::BadImage;
+
+/// Why no image was read.
+#[derive(Clone, Copy, PartialEq, Eq, Debug)]
+pub enum ImageFault {
+    /// There is no such file.
+    NoFile,
+    /// The file is no image: the place of the first field that no image has there, or the lesser of the file's length and
+    /// of the length that its tables need.
+    NotImage(u64),
+    /// The image breaks this rule at this place.
+    BadImage(BadImage),
+    /// The site failed, and its count of faults rose.
+    SiteFault,
+    /// No memory was left.
+    NoMemory,
+}

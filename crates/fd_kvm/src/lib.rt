@@ -1,0 +1,7 @@
+//! Kernel memory out of a saved minidump: the bytes at kernel addresses, through the kernel window's page directory and the
+//! direct map, as kvm_read of kvm(3) gives them. Stands on `fd_vmcore` for the file's sections and on `fd_pte` for entries.
+#![tactic(auto)]
+
+mod fault;
+
+pub use fault::ReadFault;
