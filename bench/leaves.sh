@@ -5,8 +5,8 @@
 #   lookup  looks each page of the range up from the topmost table; ranges of up to 16 GiB alone
 # All three print what they met, and that has to be the same.
 #
-# Microseconds of one walk: the least of several runs with many walks, less the least of as many runs without any, by the
-# number of walks. So neither the start of a program nor the building of its tables is in a figure.
+# Microseconds of the processor for one walk: the least of several runs with many walks, less the least of as many runs
+# without any, by the number of walks. So neither the start of a program nor the building of its tables is in a figure.
 #
 # `apart` 1: the pages stand side by side. `apart` 512: each is in a last-level table of its own, whose 511 other entries
 # are looked at too. The first argument is how many runs are timed (7 if it is left out). It needs gcc and python3.
@@ -105,18 +105,20 @@ C
 gcc -O2 -o "$folder/plain" "$folder/plain.c"
 
 python3 - "$runs" "$top/crates/fd_walkbench/out/fd_walkbench" "$folder/plain" <<'PY'
-import subprocess, sys, time
+import os, subprocess, sys
 
 runs, ours, plain = int(sys.argv[1]), [sys.argv[2]], sys.argv[3]
-lookup_limit = 16
+LOOKUP_LIMIT = 16
 
 
 def least(command):
     times = []
     for _ in range(runs):
-        begin = time.perf_counter()
-        subprocess.run(command, stdout=subprocess.DEVNULL, check=True)
-        times.append(time.perf_counter() - begin)
+        process = subprocess.Popen(command, stdout=subprocess.DEVNULL)
+        _, status, used = os.wait4(process.pid, 0)
+        process.returncode = os.waitstatus_to_exitcode(status)
+        assert process.returncode == 0, command
+        times.append(used.ru_utime + used.ru_stime)
     return min(times)
 
 
@@ -136,12 +138,12 @@ def row(gigabytes, pages, apart):
     size = (gigabytes, pages, apart)
     nested, lookup = [plain, "nested"], [plain, "lookup"]
     assert text(ours, size) == text(nested, size), size
-    # Entries that a walk looks at, about: so many walks that they take a tenth of a second or so.
-    entries = pages * min(apart, 512) + 1000
-    our_time = walk(ours, size, 4_000_000 // entries + 1)
+    # So many walks that they take a twentieth of a second or more, by the entries that a walk looks at.
+    entries = pages * min(apart, 512) + 1500 if pages else 4
+    our_time = walk(ours, size, 8_000_000 // entries + 1)
     their_time = walk(nested, size, 40_000_000 // entries + 1)
-    line = f"{pages:7} {apart:5} {gigabytes:5} {our_time:11.2f} {their_time:11.2f} {our_time / their_time:7.1f}"
-    if gigabytes <= lookup_limit:
+    line = f"{pages:7} {apart:5} {gigabytes:5} {our_time:11.3f} {their_time:11.3f} {our_time / their_time:7.1f}"
+    if gigabytes <= LOOKUP_LIMIT:
         assert text(ours, size) == text(lookup, size), size
         line += f" {walk(lookup, size, 64 // gigabytes):11.2f}"
     print(line, flush=True)
