@@ -105,53 +105,71 @@ C
 gcc -O2 -o "$folder/plain" "$folder/plain.c"
 
 python3 - "$runs" "$top/crates/fd_walkbench/out/fd_walkbench" "$folder/plain" <<'PY'
-import os, subprocess, sys
+import math, os, subprocess, sys
 
-runs, ours, plain = int(sys.argv[1]), [sys.argv[2]], sys.argv[3]
-LOOKUP_LIMIT = 16
-
-
-def least(command):
-    times = []
-    for _ in range(runs):
-        process = subprocess.Popen(command, stdout=subprocess.DEVNULL)
-        _, status, used = os.wait4(process.pid, 0)
-        process.returncode = os.waitstatus_to_exitcode(status)
-        assert process.returncode == 0, command
-        times.append(used.ru_utime + used.ru_stime)
-    return min(times)
-
-
-def walk(command, size, rounds):
-    def words(rounds):
-        return command + [str(n) for n in (*size, rounds)]
-
-    return (least(words(rounds)) - least(words(0))) / rounds * 1e6
+runs, ours, plain = int(sys.argv[1]), sys.argv[2], sys.argv[3]
+# Gigabytes, pages, and how many pages apart these begin.
+SIZES = [
+    (gigabytes, pages, apart)
+    for pages, apart in ((0, 1), (1000, 1), (10_000, 1), (100_000, 1), (1000, 512))
+    for gigabytes in (1, 16, 256, 1024)
+    if pages * apart <= gigabytes << 18
+]
+WALKS = [
+    (walker, size)
+    for size in SIZES
+    for walker in ("fd_walk", "nested", "lookup")
+    if walker != "lookup" or size[0] <= 16
+]
 
 
-def text(command, size):
-    command = command + [str(n) for n in (*size, 1)]
-    return subprocess.run(command, capture_output=True, check=True, text=True).stdout
+def words(walker, size, rounds):
+    command = [ours] if walker == "fd_walk" else [plain, walker]
+    return command + [str(number) for number in (*size, rounds)]
 
 
-def row(gigabytes, pages, apart):
-    size = (gigabytes, pages, apart)
-    nested, lookup = [plain, "nested"], [plain, "lookup"]
-    assert text(ours, size) == text(nested, size), size
-    # So many walks that they take a twentieth of a second or more, by the entries that a walk looks at.
+def text(walker, size):
+    return subprocess.run(words(walker, size, 1), capture_output=True, check=True).stdout
+
+
+def seconds(command):
+    process = subprocess.Popen(command, stdout=subprocess.DEVNULL)
+    _, status, used = os.wait4(process.pid, 0)
+    process.returncode = os.waitstatus_to_exitcode(status)
+    assert process.returncode == 0, command
+    return used.ru_utime + used.ru_stime
+
+
+# So many walks that they take some hundredths of a second or more, by the entries that a walk looks at.
+def many(walker, size):
+    gigabytes, pages, apart = size
+    if walker == "lookup":
+        return 64 // gigabytes
     entries = pages * min(apart, 512) + 1500 if pages else 4
-    our_time = walk(ours, size, 8_000_000 // entries + 1)
-    their_time = walk(nested, size, 40_000_000 // entries + 1)
-    line = f"{pages:7} {apart:5} {gigabytes:5} {our_time:11.3f} {their_time:11.3f} {our_time / their_time:7.1f}"
-    if gigabytes <= LOOKUP_LIMIT:
-        assert text(ours, size) == text(lookup, size), size
-        line += f" {walk(lookup, size, 64 // gigabytes):11.2f}"
-    print(line, flush=True)
+    return (8_000_000 if walker == "fd_walk" else 40_000_000) // entries + 1
 
+
+for walker, size in WALKS:
+    assert text(walker, size) == text("fd_walk", size), (walker, size)
+
+# Each run times all walks, so that no walk has all its runs in a busy moment of the machine.
+least = {}
+for _ in range(runs):
+    for walker, size in WALKS:
+        for rounds in 0, many(walker, size):
+            used = seconds(words(walker, size, rounds))
+            least[walker, size, rounds] = min(used, least.get((walker, size, rounds), math.inf))
 
 print("  pages apart   GiB   fd_walk us   nested us   ratio   lookup us")
-for pages, apart in (0, 1), (1000, 1), (10_000, 1), (100_000, 1), (1000, 512):
-    for gigabytes in 1, 16, 256, 1024:
-        if pages * apart <= gigabytes << 18:
-            row(gigabytes, pages, apart)
+for size in SIZES:
+    time = {}
+    for walker in (walker for walker, timed in WALKS if timed == size):
+        rounds = many(walker, size)
+        time[walker] = (least[walker, size, rounds] - least[walker, size, 0]) / rounds * 1e6
+    gigabytes, pages, apart = size
+    line = f"{pages:7} {apart:5} {gigabytes:5} {time['fd_walk']:12.3f} {time['nested']:11.3f}"
+    line += f" {time['fd_walk'] / time['nested']:7.1f}"
+    if "lookup" in time:
+        line += f" {time['lookup']:11.0f}"
+    print(line)
 PY

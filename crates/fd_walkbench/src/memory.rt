@@ -1,5 +1,6 @@
 //! Page tables of AMD64 in memory of their own.
-ghost use Rattle.std.specs.Prelude.{◌≡◌, ◌≤◌, ◌+◌, ◌/◌, ◌%◌, ◌^◌, ◌==◌, None, IfOk, slice_get, if◌then◌else◌};
+ghost use Rattle.std.specs.Prelude.{◌≤◌, ◌+◌, ◌^◌, IfOk};
+ghost use Rattle.fd_walkbench.specs.Words.{word_of};
 
 use fd_image::Memory;
 use std::alloc::{AllocError, Global};
@@ -17,7 +18,7 @@ const PRESENT: u64 = 1;
 const ENTRIES: usize = 512;
 
 impl Memory for TableMemory {
-    ghost word_at = { λ m pa. if pa % 8 == 0 then slice_get m.words.items (pa / 8) else None };
+    ghost word_at = { word_of };
 
     fn word(&self, pa: u64) -> Option<u64> {
         if pa % 8 != 0 {
