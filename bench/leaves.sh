@@ -1,6 +1,6 @@
 #!/usr/bin/env bash
-# The time of one walk of a range's leaves, by the gigabytes of the range and by the pages that are mapped in it, beside two
-# plain C programs over the same tables:
+# The time of one walk of a range's leaves, by the gigabytes of the range and by the pages that are mapped in it, beside
+# two plain C programs over the same tables:
 #   nested  goes through the entries of each table that it comes to, by one call a table
 #   lookup  looks each page of the range up from the topmost table; ranges of up to 16 GiB alone
 # All three print what they met, and that has to be the same.
@@ -8,8 +8,8 @@
 # Microseconds of the processor for one walk: the least of several runs with many walks, less the least of as many runs
 # without any, by the number of walks. So neither the start of a program nor the building of its tables is in a figure.
 #
-# `apart` 1: the pages stand side by side. `apart` 512: each is in a last-level table of its own, whose 511 other entries
-# are looked at too. The first argument is how many runs are timed (7 if it is left out). It needs gcc and python3.
+# `apart` 1: the pages stand side by side. `apart` 512: each is in a last-level table of its own, whose 511 other
+# entries are looked at too. The first argument is how many runs are timed (7 if it is left out). It needs gcc and python3.
 set -eu
 top=$(cd "$(dirname "$0")/.." && pwd)
 runs=${1:-7}

@@ -34,7 +34,8 @@ impl Sizes {
     /// These sizes, where they go together.
     pub fn new(gigabytes: u64, pages: u64, apart: u64, rounds: u64) -> Result<Sizes, Refusal>
         ensures refusal { result_err result ≡ refusal_of gigabytes pages apart }
-        ensures sizes { IfOk result (λ s. (s.gigabytes ≡ gigabytes) × (s.pages ≡ pages) × (s.apart ≡ apart) × (s.rounds ≡ rounds)) }
+        ensures sizes { IfOk result (λ s. (s.gigabytes ≡ gigabytes) × (s.pages ≡ pages)
+            × (s.apart ≡ apart) × (s.rounds ≡ rounds)) }
     {
         if gigabytes > MOST_GIGABYTES {
             return Err(Refusal::TooManyGigabytes);
