@@ -8,11 +8,12 @@ use Rattle.std.proofs.lemmas.List.Concat.{flat_map-append}
 use Rattle.std.proofs.lemmas.Nat.{shr_below, mod_below, pow_pos}
 use Rattle.fd_pte.specs.declared.entry.Kind.TheVariants.{Absent, Table}
 use Rattle.fd_pte.specs.Entry.{bytes_under, units_under}
-use Rattle.fd_walk.specs.PageTables.{PageTables, entry_at, kind_of_entry, kind_at}
+use Rattle.fd_walk.specs.PageTables.{PageTables, entry_at, index_at, kind_of_entry, kind_at}
 use Rattle.fd_walk.specs.Descent.{IsTable, IsOnWay, IsReached}
 use Rattle.fd_walk.specs.Leaf.{MappedBy, leaf_of_entry, leaf_at}
 use Rattle.fd_walk.specs.Directory.{DirectoryForm, expanded_leaf, entry_or_expanded, directory_entry, directory_bytes}
 use Rattle.fd_walk.proofs.Ways.{leaf_at-reached, nothing_below}
+use Rattle.fd_walk.proofs.Spans.{same_above, reached-same, way_beside}
 
 absent_names_none : ¬ IsTable Absent
 absent_names_none names = let no_such : Absent ≡ Table names.0 = names.1 in cc
@@ -29,16 +30,22 @@ stands t form va table None way =
     (leaf_at-reached t va form.height table None way
     (λ h below. nothing_below t va form.height way.high names_none (form.height - h - 1) h (omega arith))))
 
-pub entry_stands : (t : PageTables) (form : DirectoryForm) (va height table : ℕ) (entry : Option ℕ)
-    → height ≡ form.height → IsOnWay t va height table entry → unwrap_or entry 0 ≡ directory_entry t form va
-entry_stands t form va height table entry here way =
-    stands t form va table entry (subst (λ h. IsOnWay t va h table entry) here way)
+-- also where the walk was for another address of the page
+pub entry_stands : (t : PageTables) (form : DirectoryForm) (walked va height table : ℕ) (entry word : Option ℕ)
+    → height ≡ form.height → IsOnWay t walked height table entry
+    → walked / bytes_under (form.height + 1) ≡ va / bytes_under (form.height + 1)
+    → word ≡ t.word_at (table + 8 * index_at form.height va) → unwrap_or word 0 ≡ directory_entry t form va
+entry_stands t form walked va height table entry word here way same is_word =
+    stands t form va table word
+    (way_beside t walked va form.height table entry word (subst (λ h. IsOnWay t walked h table entry) here way) same is_word)
 
 -- where it ended above, the leaf that it found is expanded, or the entry is 0
-pub leaf_stands : (t : PageTables) (form : DirectoryForm) (va lowest height table : ℕ) (entry : Option ℕ) (leaf : Option MappedBy)
-    → lowest ≡ form.height → IsReached t lowest va height table entry → form.height < height
+pub leaf_stands : (t : PageTables) (form : DirectoryForm) (walked va height table : ℕ) (entry : Option ℕ) (leaf : Option MappedBy)
+    → IsReached t form.height walked height table entry → form.height < height
+    → walked / bytes_under (form.height + 1) ≡ va / bytes_under (form.height + 1)
     → leaf_of_entry t.kind_of height entry ≡ leaf → expanded_leaf form va leaf ≡ directory_entry t form va
-leaf_stands t form va lowest height table entry leaf here reached above found =
+leaf_stands t form walked va height table entry leaf walk above same found =
+    let reached = reached-same t form.height walked va height table entry walk (same_above (form.height + 1) height walked va (omega arith) same) in
     let none : (h : ℕ) → h < height → entry_at t h va ≡ None =
     λ h below. nothing_below t va height reached.way.high (reached.end (omega arith)) (height - h - 1) h (omega arith) in
     sym (ap (λ e. entry_or_expanded form va e (leaf_at t va)) (none form.height above)

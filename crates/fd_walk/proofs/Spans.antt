@@ -1,21 +1,24 @@
 -- The addresses under one entry: a walk for one of them is a walk for each.
-use Rattle.std.proofs.Common.{◌≡◌, ◌∙◌, ℕ, zero, suc, ◌+◌, ◌-◌, ◌*◌, ◌/◌, ◌%◌, ◌^◌, ◌<◌, ◌≤◌, Option, Some, None, List, [], ◌∷◌, ◌++◌, refl, ap, sym, subst, arith, zero-add}
+use Rattle.std.proofs.Common.{◌≡◌, ◌∙◌, ℕ, zero, suc, ◌+◌, ◌-◌, ◌*◌, ◌/◌, ◌%◌, ◌^◌, ◌<◌, ◌≤◌, Option, Some, None, List, [], ◌∷◌, ◌++◌, inl, inr, refl, ap, sym, subst, arith, zero-add}
 use Rattle.std.specs.List.{filter_map, range_with_len, cons_option}
 use Rattle.std.specs.Option.{option_to_list}
-use Rattle.std.proofs.lemmas.Nat.{shr-shr, mod_below, div-add-mod', div-mul-add}
+use Rattle.std.proofs.lemmas.Nat.{shr-shr, mod_below, div-add-mod', div-mul-add, pow_pos, row_fits}
+use Rattle.std.proofs.Math.Nat.{add-mul-mod_self_right, le_refl}
+use Rattle.std.proofs.lemmas.Bool.{cases_lt}
 use Rattle.std.proofs.lemmas.List.{append-nil}
 use Rattle.std.proofs.lemmas.List.Elements.{filter_map-append}
 use Rattle.fd_pte.specs.declared.entry.Kind.{Kind}
 use Rattle.fd_pte.specs.declared.entry.Kind.TheVariants.{Absent, Table, Leaf}
 use Rattle.fd_pte.specs.Entry.{bytes_under}
-use Rattle.fd_walk.specs.PageTables.{PageTables, entry_at, kind_at, kind_of_entry}
-use Rattle.fd_walk.specs.Descent.{IsReached}
+use Rattle.fd_walk.specs.PageTables.{PageTables, entry_at, index_at, kind_at, kind_of_entry}
+use Rattle.fd_walk.specs.Descent.{IsOnWay, IsReached}
 use Rattle.fd_walk.specs.Leaf.{leaf_of_entry, leaf_at}
+use Rattle.fd_walk.proofs.Addresses.{bytes_under-above}
 use Rattle.fd_walk.proofs.TablePath.{word_under, entry_at-top, entry_at-below}
 use Rattle.fd_walk.proofs.Ways.{leaf_at-reached, reached-nothing_below}
 
 -- addresses under one entry are under one entry of each greater height
-same_above : (low high a b : ℕ) → low ≤ high → a / bytes_under low ≡ b / bytes_under low → a / bytes_under high ≡ b / bytes_under high
+pub same_above : (low high a b : ℕ) → low ≤ high → a / bytes_under low ≡ b / bytes_under low → a / bytes_under high ≡ b / bytes_under high
 same_above low high a b above same =
     let exponents : 12 + 9 * high ≡ 12 + 9 * low + 9 * (high - low) = omega arith in
     let divided = λ (n : ℕ). sym (shr-shr n (12 + 9 * low) (9 * (high - low))) in
@@ -59,11 +62,40 @@ reached-same t lowest a b height table entry reached same =
             let names = reached.way.above h higher below in
             (names.0, sym (kind_at-same t height a b h same (omega arith) below) ∙ names.1);
         named = λ below. sym (kind_at-same t height a b (height + 1) same (omega arith) below) ∙ reached.way.named below;
+        top = reached.way.top;
       };
       low = reached.low;
       end = λ above names.
           reached.end above (names.0, kind_at-same t height a b height same (omega arith) within ∙ names.1);
     }
+
+-- the entry for an address is in the table that a walk came to for another under the same entry above
+entry_beside : (t : PageTables) (a b height table : ℕ) (entry : Option ℕ) → IsOnWay t a height table entry
+    → a / bytes_under (height + 1) ≡ b / bytes_under (height + 1) → entry_at t height b ≡ t.word_at (table + 8 * index_at height b)
+entry_beside t a b height table entry way same =
+    elim (cases_lt (height + 1) t.levels) [
+      | inl within ↦
+          entry_at-below t height b within
+          ∙ ap (λ kind. word_under t height b kind)
+          (sym (kind_at-same t (height + 1) a b (height + 1) same (omega arith) within) ∙ way.named within)
+      | inr highest ↦
+          let top : height + 1 ≡ t.levels = omega (arith, way.high) in
+          entry_at-top t height b top ∙ ap (λ root. t.word_at (root + 8 * index_at height b)) (sym (way.top top))
+    ]
+
+-- so the walk for one is the walk for the other but for its last step
+pub way_beside : (t : PageTables) (a b height table : ℕ) (entry beside : Option ℕ) → IsOnWay t a height table entry
+    → a / bytes_under (height + 1) ≡ b / bytes_under (height + 1) → beside ≡ t.word_at (table + 8 * index_at height b)
+    → IsOnWay t b height table beside
+way_beside t a b height table entry beside way same word = record {
+  high = way.high;
+  found = word ∙ sym (entry_beside t a b height table entry way same);
+  above = λ h higher below.
+      let names = way.above h higher below in
+      (names.0, sym (kind_at-same t (height + 1) a b h same (omega arith) below) ∙ names.1);
+  named = λ below. sym (kind_at-same t (height + 1) a b (height + 1) same (omega arith) below) ∙ way.named below;
+  top = way.top;
+}
 
 -- the leaf of every address under the entry that a walk to the pages ended at
 pub leaf_at-same : (t : PageTables) (a b height table : ℕ) (entry : Option ℕ) → IsReached t 0 a height table entry
@@ -79,6 +111,19 @@ same_span a b size some behind before =
     let whole : a / size * size ≤ a = omega (arith, div-add-mod' a size) in
     let place : b ≡ a / size * size + (b - a / size * size) = omega arith in
     sym (ap (λ n. n / size) place ∙ div-mul-add (a / size) size (b - a / size * size) (omega arith))
+
+-- the units of a page of entries are under one entry of the height above
+pub same_page : (base page unit size height : ℕ) → size ≡ bytes_under height → base % (512 * bytes_under height) ≡ 0 → unit < 512
+    → (base + page * (512 * size)) / bytes_under (height + 1) ≡ (base + page * (512 * size) + unit * size) / bytes_under (height + 1)
+same_page base page unit size height is_size aligned within =
+    let table : bytes_under (height + 1) ≡ 512 * size = bytes_under-above height ∙ ap (λ s. 512 * s) (sym is_size) in
+    let start : base % (512 * size) ≡ 0 = ap (λ s. base % (512 * s)) is_size ∙ aligned in
+    let first = base + page * (512 * size) in
+    let whole : first % (512 * size) ≡ 0 = add-mul-mod_self_right base page (512 * size) ∙ start in
+    let some : 0 < size = subst (λ s. 0 < s) (sym is_size) (pow_pos (12 + 9 * height)) in
+    let inside = row_fits unit size 512 size within (le_refl size) in
+    subst (λ s. first / s ≡ (first + unit * size) / s) (sym table)
+    (same_span first (first + unit * size) (512 * size) (omega arith) (omega arith) (omega arith))
 
 -- and one before it, behind the entry's beginning
 pub same_span_back : (a b size : ℕ) → 0 < size → a ≤ b → b - b % size ≤ a → a / size ≡ b / size

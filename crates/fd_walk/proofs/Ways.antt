@@ -19,6 +19,7 @@ way_from_top t va height entry top word = record {
   found = word ∙ sym (entry_at-top t height va top);
   above = λ h higher within. absurd (omega arith);
   named = λ within. absurd (omega arith);
+  top = λ highest. refl;
 }
 
 -- and goes on in the table that an entry names
@@ -37,6 +38,7 @@ way_down t va height table below lower entry next way names one_lower word =
             | inr nearer ↦ (below, ap (λ k. kind_at t k va) (let same : h ≡ height = omega arith in same) ∙ named)
           ];
       named = λ within. right_above;
+      top = λ highest. absurd (omega (arith, way.high));
     }
 
 -- nothing is found in place of a table by an entry that names none

@@ -14,6 +14,7 @@ pub record IsOnWay (t : PageTables) (va height table : ℕ) (entry : Option ℕ)
   pub found : entry ≡ entry_at t height va
   pub above : (h : ℕ) → height < h → h < t.levels → IsTable (kind_at t h va)
   pub named : height + 1 < t.levels → kind_at t (height + 1) va ≡ Table table
+  pub top : height + 1 ≡ t.levels → table ≡ t.root
 
 -- the walk ends at this entry: it is the lowest that is asked for, or names no table
 pub record IsReached (t : PageTables) (lowest va height table : ℕ) (entry : Option ℕ) : Type 0 where

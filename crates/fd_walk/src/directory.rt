@@ -1,12 +1,13 @@
 //! The page directory of a minidump.
-ghost use Rattle.std.specs.Prelude.{◌≡◌, ◌≤◌, ◌%◌, ◌+◌, ◌*◌, ◌^◌, ◌++◌, take};
+ghost use Rattle.std.specs.Prelude.{◌≡◌, ◌≤◌, ℕ, ◌/◌, ◌%◌, ◌+◌, ◌*◌, ◌^◌, ◌++◌, take};
 ghost use Rattle.std.specs.Int.{w64, to_le_bytes};
 ghost use Rattle.fd_pte.specs.Entry.{bytes_under};
 ghost use Rattle.fd_walk.specs.PageTables.{tables_of};
+ghost use Rattle.fd_walk.specs.Descent.{IsReached};
 ghost use Rattle.fd_walk.specs.Directory.{directory_form, directory_entry, directory_bytes};
 
-use crate::address::bytes_under;
-use crate::walker::Walker;
+use crate::address::{bytes_under, index_at};
+use crate::walker::{Reached, Walker};
 use fd_image::Memory;
 use fd_pte::Entry;
 
@@ -24,6 +25,7 @@ impl<E: Entry, const LEVELS: usize> Walker<E, LEVELS> {
         requires aligned { root % 4096 ≡ 0 }
         requires some_levels { 2 ≤ LEVELS }
         requires most_levels { LEVELS ≤ 4 }
+        requires window { kernbase % (512 * bytes_under E.DIRECTORY_HEIGHT) ≡ 0 }
         requires end { kernbase + (index + 1) * (512 * bytes_under E.DIRECTORY_HEIGHT) ≤ 2 ^ 64 }
         ensures { let tables = tables_of (M.word_at mem.now) E.kind_of LEVELS root in
             let form = directory_form E.DIRECTORY_HEIGHT E.expansion in
@@ -32,24 +34,29 @@ impl<E: Entry, const LEVELS: usize> Walker<E, LEVELS> {
     {
         let size = bytes_under(E::DIRECTORY_HEIGHT);
         let first = kernbase + index * (512 * size);
+        // The entries of a page share the entry above them: the walk is the same for each.
+        let reached = Self::descend(mem, root, first, E::DIRECTORY_HEIGHT);
         for unit in 0..512 {
-            let entry = Self::directory_entry(mem, root, first + unit * size);
+            let entry = Self::directory_entry(mem, reached, first + unit * size);
             put_entry(out, 8 * unit as usize, entry);
         }
     }
 
-    /// The directory's entry for the unit that begins at `va`.
-    fn directory_entry<M: Memory>(mem: &M, root: u64, va: u64) -> u64
-        requires aligned { root % 4096 ≡ 0 }
-        requires some_levels { 2 ≤ LEVELS }
-        requires most_levels { LEVELS ≤ 4 }
-        ensures { let tables = tables_of (M.word_at mem.now) E.kind_of LEVELS root in
+    /// The directory's entry for the unit that begins at `va`, from where a walk ended for an address
+    /// under the same entry of the height above.
+    fn directory_entry<M: Memory>(mem: &M, reached: Reached, va: u64) -> u64
+        requires low { E.DIRECTORY_HEIGHT ≤ reached.height }
+        requires high { reached.height ≤ 3 }
+        requires room { reached.table + 4096 ≤ 2 ^ 64 }
+        ensures { (root walked : ℕ) → let tables = tables_of (M.word_at mem.now) E.kind_of LEVELS root in
             let form = directory_form E.DIRECTORY_HEIGHT E.expansion in
-            result ≡ directory_entry tables form va }
+            IsReached tables E.DIRECTORY_HEIGHT walked reached.height reached.table reached.entry
+            → walked / bytes_under (E.DIRECTORY_HEIGHT + 1) ≡ va / bytes_under (E.DIRECTORY_HEIGHT + 1)
+            → result ≡ directory_entry tables form va }
     {
-        let reached = Self::descend(mem, root, va, E::DIRECTORY_HEIGHT);
         if reached.height == E::DIRECTORY_HEIGHT {
-            return reached.entry.unwrap_or(0);
+            let place = reached.table + 8 * index_at(va, E::DIRECTORY_HEIGHT);
+            return mem.word(place).unwrap_or(0);
         }
         match Self::leaf(reached.entry, reached.height) {
             Some(leaf) => {

@@ -1,5 +1,5 @@
 //! Walks from the topmost table down.
-ghost use Rattle.std.specs.Prelude.{◌≡◌, ◌≤◌, ◌<◌, ◌%◌, ℕ, Option, Some, None, MatchOption, IfSome, ◌^◌};
+ghost use Rattle.std.specs.Prelude.{◌≡◌, ◌≤◌, ◌<◌, ◌%◌, ◌+◌, ◌^◌, ℕ, Option, Some, None, MatchOption, IfSome};
 ghost use Rattle.fd_pte.specs.Entry.{IsPlaced};
 ghost use Rattle.fd_walk.specs.PageTables.{tables_of, kind_of_entry};
 ghost use Rattle.fd_walk.specs.Descent.{IsReached};
@@ -65,8 +65,9 @@ impl<E: Entry, const LEVELS: usize> Walker<E, LEVELS> {
         requires aligned { root % 4096 ≡ 0 }
         requires lowest { lowest < LEVELS }
         requires most_levels { LEVELS ≤ 4 }
-        ensures { let tables = tables_of (M.word_at mem.now) E.kind_of LEVELS root in
+        ensures reached { let tables = tables_of (M.word_at mem.now) E.kind_of LEVELS root in
             IsReached tables lowest va result.height result.table result.entry }
+        ensures room { result.table + 4096 ≤ 2 ^ 64 }
     {
         let mut height = LEVELS as u32 - 1;
         let mut table = root;

@@ -9,7 +9,7 @@ returns-in-Some-clause-leaves g c =
     let t = tables_of (g.M.Memory.word_at c.args.mem.now) g.E.Entry.kind_of g.row.LEVELS c.args.root in
     let walk = c.descend-reached in
     leaves_in-leaf t c.args.at c.args.left walk.result.height walk.result.table c.in-Some.found.bits c.in-Some.found.address
-    c.bytes_under-size.result c.min-bytes.result walk.result.entry walk.ensures c.requires.some c.bytes_under-size.ensures
+    c.bytes_under-size.result c.min-bytes.result walk.result.entry walk.ensures.reached c.requires.some c.bytes_under-size.ensures
     c.min-bytes.ensures c.in-Some.ensures.leaf
     ∙ ap (λ rest. part_at c.args.at c.bytes_under-size.result c.min-bytes.result c.in-Some.found.bits c.in-Some.found.address ∷ rest)
     (leaves_in-wrapped t (c.args.at + c.min-bytes.result) (c.args.left - c.min-bytes.result) (omega arith))
@@ -19,5 +19,5 @@ returns-in-None-clause-leaves g c =
     let t = tables_of (g.M.Memory.word_at c.args.mem.now) g.E.Entry.kind_of g.row.LEVELS c.args.root in
     let walk = c.descend-reached in
     leaves_in-no_leaf t c.args.at c.args.left walk.result.height walk.result.table c.bytes_under-size.result c.min-bytes.result
-    walk.result.entry walk.ensures c.requires.some c.bytes_under-size.ensures c.min-bytes.ensures c.in-None.ensures.leaf
+    walk.result.entry walk.ensures.reached c.requires.some c.bytes_under-size.ensures c.min-bytes.ensures c.in-None.ensures.leaf
     ∙ leaves_in-wrapped t (c.args.at + c.min-bytes.result) (c.args.left - c.min-bytes.result) (omega arith)

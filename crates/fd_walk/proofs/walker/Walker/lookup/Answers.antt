@@ -11,7 +11,7 @@ returns-in-Some g c =
     let t = tables_of (g.M.Memory.word_at c.args.mem.now) g.E.Entry.kind_of g.row.LEVELS c.args.root in
     let walk = c.descend-reached in
     sym (step_at-told t c.args.va walk.result.height walk.result.table walk.result.entry c.then_some-table.result
-    c.requires.some_levels walk.ensures c.then_some-table.ensures
+    c.requires.some_levels walk.ensures.reached c.then_some-table.ensures
     ∙ ap (λ leaf. step_of c.args.va c.then_some-table.result leaf) c.in-Some.ensures.leaf
     ∙ ap (λ size. Leaf (c.args.va - c.args.va % size) c.in-Some.leaf.address size c.in-Some.leaf.bits c.then_some-table.result)
     (sym c.bytes_under-size.ensures))
@@ -21,5 +21,5 @@ returns-in-None g c =
     let t = tables_of (g.M.Memory.word_at c.args.mem.now) g.E.Entry.kind_of g.row.LEVELS c.args.root in
     let walk = c.descend-reached in
     sym (step_at-told t c.args.va walk.result.height walk.result.table walk.result.entry c.then_some-table.result
-    c.requires.some_levels walk.ensures c.then_some-table.ensures
+    c.requires.some_levels walk.ensures.reached c.then_some-table.ensures
     ∙ ap (λ leaf. step_of c.args.va c.then_some-table.result leaf) c.in-None.ensures.leaf)
