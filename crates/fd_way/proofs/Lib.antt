@@ -1,0 +1,7 @@
+mod AvailBack
+mod BitmapBits
+mod DumpedPages
+mod Limits
+mod Opening
+mod SectionPlaces
+mod Stands
