@@ -47,11 +47,11 @@ has_from : (pa : ℕ) (seg : Seg) (pair : ℕ × ℕ) → (nat_le pair.0 pa && n
 has_from pa seg pair test from to = grind (arith, nat_tests)
 
 -- the page of an address in a segment of whole pages
-record IsPageIn (seg : Seg) (pa : ℕ) : Type 0 where
-  begins : seg.start ≤ page_start pa
-  ends : page_start pa - seg.start + 4096 ≤ length seg.bytes
+pub record IsPageIn (seg : Seg) (pa : ℕ) : Type 0 where
+  pub begins : seg.start ≤ page_start pa
+  pub ends : page_start pa - seg.start + 4096 ≤ length seg.bytes
 
-page_inside : (seg : Seg) (pa : ℕ) → has_address pa seg ≡ true → is_whole_pages seg ≡ true → IsPageIn seg pa
+pub page_inside : (seg : Seg) (pa : ℕ) → has_address pa seg ≡ true → is_whole_pages seg ≡ true → IsPageIn seg pa
 page_inside seg pa has whole =
     let start : seg.start % 4096 ≡ 0 = grind (arith, nat_tests) in
     let long : length seg.bytes % 4096 ≡ 0 = grind (arith, nat_tests) in
@@ -62,7 +62,7 @@ page_inside seg pa has whole =
       ends = page_ends seg.start (length seg.bytes) pa start long from to;
     }
 
-length-page_in : (seg : Seg) (pa : ℕ) → IsPageIn seg pa → length (page_in seg pa) ≡ 4096
+pub length-page_in : (seg : Seg) (pa : ℕ) → IsPageIn seg pa → length (page_in seg pa) ≡ 4096
 length-page_in seg pa inside =
     let at : ℕ = page_start pa - seg.start in
     let all : at + 4096 - at ≡ 4096 = omega arith in
@@ -99,13 +99,15 @@ module _ (m : MachineImage) (valid : IsValid m) where
       let long : length seg.bytes % 4096 ≡ 0 = grind (arith, nat_tests) in
       grind (arith, nat_tests)
 
+  pub segment_of-start : (pa : ℕ) → segment_of m pa ≡ segment_of m (page_start pa)
+  segment_of-start pa =
+      find_same (has_address pa) (has_address (page_start pa)) m.segs (λ k within d. has_start pa (get_or m.segs k d) (passes is_whole_pages m.segs (rules_kept m valid.unbroken).segments_whole k within d))
+
   pub page_of-start : (pa : ℕ) → page_of m pa ≡ page_of m (page_start pa)
   unfolding page_of
   page_of-start pa =
       let same : page_start (page_start pa) ≡ page_start pa = omega arith in
-      let segment : segment_of m pa ≡ segment_of m (page_start pa) =
-      find_same (has_address pa) (has_address (page_start pa)) m.segs (λ k within d. has_start pa (get_or m.segs k d) (passes is_whole_pages m.segs (rules_kept m valid.unbroken).segments_whole k within d)) in
-      ap (λ (s : Option Seg). option_map (λ (seg : Seg). page_in seg pa) s) segment
+      ap (λ (s : Option Seg). option_map (λ (seg : Seg). page_in seg pa) s) (segment_of-start pa)
       ∙ ap (λ (n : ℕ). option_map (λ (seg : Seg). slice_range seg.bytes (n - seg.start) (n - seg.start + 4096)) (segment_of m (page_start pa))) (sym same)
 
   -- a dumped page is available

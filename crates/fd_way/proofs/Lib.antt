@@ -1,8 +1,10 @@
 mod AvailBack
 mod BitmapBits
 mod DumpedPages
+mod ImageWords
 mod Limits
 mod Located
 mod Opening
 mod SectionPlaces
 mod Stands
+mod TableEntries
