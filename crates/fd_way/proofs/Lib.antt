@@ -8,3 +8,5 @@ mod Opening
 mod SectionPlaces
 mod Stands
 mod TableEntries
+mod Translated
+mod Units

@@ -1,6 +1,6 @@
 -- Parts of a list, each at its place.
 use Rattle.std.proofs.Common.{◌≡◌, ℕ, zero, suc, ◌+◌, ◌-◌, ◌*◌, ◌<◌, ◌≤◌, ◌^◌, List, [], ◌∷◌, ◌++◌, length, take, drop, get_or, slice_range, refl, sym, ◌∙◌, ap, arith, length-append, append_assoc, append-nil, mul-suc, suc-mul}
-use Rattle.std.specs.Int.{w64, to_le_bytes}
+use Rattle.std.specs.Int.{w64, to_le_bytes, from_le_bytes}
 use Rattle.std.specs.List.{flat_map}
 use Rattle.std.proofs.lemmas.List.{take_at, drop_at, get_or-append_right, get_or_append_left, length-take-le, length-drop, take-append-drop}
 use Rattle.fd_bytes.specs.Field.{u64_le_at}
@@ -68,6 +68,11 @@ get_or-Stands part whole at i stands within =
 pub u64_le_at-Stands : (whole : List ℕ) (at n : ℕ) → Stands (to_le_bytes w64 n) at whole → n < 2 ^ 64 → u64_le_at whole at ≡ n
 u64_le_at-Stands whole at n stands fits =
     u64_le_at-spelled whole at n fits (sym (range-Stands (to_le_bytes w64 n) whole at 8 stands refl))
+
+-- and so is one that the part has
+pub u64_le_at-within : (part whole : List ℕ) (at i : ℕ) → Stands part at whole → i + 8 ≤ length part → u64_le_at whole (at + i) ≡ u64_le_at part i
+unfolding u64_le_at
+u64_le_at-within part whole at i stands within = ap (λ l. from_le_bytes w64 l) (range_within-Stands part whole at i 8 stands within)
 
 -- pieces of one size, joined
 pub length-pieces : {X : Type 0} (f : X → List ℕ) (size : ℕ) (xs : List X) → ((x : X) → length (f x) ≡ size) → length (flat_map f xs) ≡ length xs * size
