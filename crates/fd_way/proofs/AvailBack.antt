@@ -1,16 +1,15 @@
 -- The ranges of available memory are read back, none of them is bad, and their pages aren't many.
-use Rattle.std.proofs.Common.{◌≡◌, ℕ, zero, suc, ◌+◌, ◌-◌, ◌*◌, ◌/◌, ◌%◌, ◌<◌, ◌≤◌, ◌^◌, min, Bool, true, false, List, [], ◌∷◌, ◌++◌, length, map, take, get_or, replicate, zip, position, All, Option, Some, None, refl, sym, ◌∙◌, ap, arith, length-append, mul-le-mul_right, le_trans}
-use Rattle.std.specs.Prelude.{◌==◌}
+use Rattle.std.proofs.Common.{◌≡◌, ℕ, zero, suc, ◌+◌, ◌-◌, ◌*◌, ◌/◌, ◌<◌, ◌≤◌, ◌^◌, true, false, List, ◌∷◌, ◌++◌, length, map, take, get_or, replicate, All, None, refl, sym, ◌∙◌, ap, arith}
 use Rattle.std.specs.Int.{w64, to_le_bytes, div_ceil}
-use Rattle.std.specs.List.{flat_map, range_with_len, prefix_len, position_or_len, sum_by}
+use Rattle.std.specs.List.{flat_map, range_with_len, prefix_len, position_or_len}
 use Rattle.std.proofs.lemmas.Bool.Decides.{nat_tests}
-use Rattle.std.proofs.lemmas.List.{length-map, length-replicate, get_or-map}
+use Rattle.std.proofs.lemmas.List.{get_or-map}
 use Rattle.std.proofs.lemmas.List.Concat.{length-flat_map}
 use Rattle.std.proofs.lemmas.List.Elements.{All-get_or, All-from_get_or}
 use Rattle.std.proofs.lemmas.List.FromFn.{length-range_with_len, length-map-range_with_len, get_or-map-range_with_len, take-map-range_with_len, fill_by_all}
 use Rattle.std.proofs.lemmas.List.Sums.{prefix_len_is, position_or_len_is, sum_by-le}
 use Rattle.fd_bytes.specs.Field.{u64_le_at}
-use Rattle.fd_image.specs.Image.{MachineImage, IsValid, pair_end, beside_the_one_before}
+use Rattle.fd_image.specs.Image.{MachineImage, IsValid, pair_end}
 use Rattle.fd_image.proofs.Places.{length-beside, get_or-beside}
 use Rattle.fd_bitmap.specs.Pages.{consecutive, first_page, end_page, pages_of, is_bad, with_ends_before, first_bad}
 use Rattle.fd_mini.specs.Places.{rounded_up}
@@ -125,7 +124,10 @@ module _ (m : MachineImage) (valid : IsValid m) where
   pub few_pages : length (pages_of m.avail) ≤ 2 ^ 28
   few_pages =
       let pages_in_pair = λ (pair : ℕ × ℕ). consecutive (first_page pair) (end_page pair - first_page pair) in
-      omega (arith, length-flat_map pages_in_pair m.avail,
-      sum_by-le (λ (pair : ℕ × ℕ). length (pages_in_pair pair)) (2 ^ 18) m.avail
-      (All-from_get_or (λ (pair : ℕ × ℕ). length (pages_in_pair pair) ≤ 2 ^ 18) m.avail (0, 0) few_in_pair),
-      limited m valid)
+      omega (
+        arith,
+        length-flat_map pages_in_pair m.avail,
+        sum_by-le (λ (pair : ℕ × ℕ). length (pages_in_pair pair)) (2 ^ 18) m.avail
+            (All-from_get_or (λ (pair : ℕ × ℕ). length (pages_in_pair pair) ≤ 2 ^ 18) m.avail (0, 0) few_in_pair),
+        limited m valid,
+      )

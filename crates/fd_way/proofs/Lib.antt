@@ -5,6 +5,7 @@ mod ImageWords
 mod Limits
 mod Located
 mod Opening
+pub mod SameReads
 mod SectionPlaces
 mod Stands
 mod TableEntries

@@ -1,14 +1,12 @@
 -- What the rules of a valid image say of its pairs and windows, in numbers.
-use Rattle.std.proofs.Common.{◌≡◌, ℕ, zero, suc, ◌+◌, ◌-◌, ◌*◌, ◌/◌, ◌%◌, ◌<◌, ◌≤◌, ◌^◌, Bool, true, false, cond, ◌&&◌, ◌⊎◌, List, [], ◌∷◌, length, map, get_or, nat_le, zip, find, position, sum_by, Option, Some, None, refl, sym, ◌∙◌, ap, arith, inl, inr}
+use Rattle.std.proofs.Common.{◌≡◌, ℕ, ◌+◌, ◌*◌, ◌/◌, ◌%◌, ◌<◌, ◌≤◌, ◌^◌, Bool, true, false, cond, ◌&&◌, List, ◌∷◌, length, map, get_or, nat_le, sum_by, Option, Some, None, sym, ◌∙◌, ap, arith}
 use Rattle.std.specs.Prelude.{◌==◌}
-use Rattle.std.specs.List.{list_any}
-use Rattle.std.proofs.lemmas.Bool.{cases_Bool}
 use Rattle.std.proofs.lemmas.Bool.Decides.{nat_tests}
 use Rattle.std.proofs.lemmas.List.Folds.{Any-from_list_any}
 use Rattle.std.proofs.lemmas.List.Sums.{get_or-le-sum_by}
 use Rattle.fd_bytes.specs.declared.arch.Arch.{Arch}
 use Rattle.fd_bytes.specs.declared.arch.Arch.TheVariants.{Amd64, Arm64, Riscv}
-use Rattle.fd_image.specs.Image.{MachineImage, IsValid, end_of, first_failing, beside_the_one_before, is_range_of_pages, ragged_pair, pair_end, pair_begins_at_or_after, lies_in_segment, is_within_limits, is_kernel_window, is_direct_map, direct_map_end, kernel_end}
+use Rattle.fd_image.specs.Image.{MachineImage, IsValid, end_of, first_failing, beside_the_one_before, is_range_of_pages, ragged_pair, pair_end, pair_begins_at_or_after, lies_in_segment, is_within_limits, is_kernel_window, is_direct_map, kernel_end}
 use Rattle.fd_image.specs.Space.{space_of}
 use Rattle.fd_image.specs.declared.parts.Seg.{Seg}
 use Rattle.fd_image.specs.declared.parts.Windows.{Windows}

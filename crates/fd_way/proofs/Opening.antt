@@ -1,5 +1,5 @@
 -- Opening an image's minidump finds its header, the pages of its ranges and its bits.
-use Rattle.std.proofs.Common.{◌≡◌, ℕ, zero, suc, ◌+◌, ◌-◌, ◌*◌, ◌<◌, ◌≤◌, ◌^◌, Bool, true, false, cond, List, ◌++◌, length, map, take, replicate, slice_range, Option, None, Result, Ok, Err, refl, sym, ◌∙◌, ap, arith, lit<}
+use Rattle.std.proofs.Common.{◌≡◌, ℕ, zero, suc, ◌+◌, ◌-◌, ◌*◌, ◌<◌, ◌≤◌, ◌^◌, Bool, false, cond, List, ◌++◌, length, take, replicate, None, Result, Ok, refl, sym, ◌∙◌, ap, arith, lit<}
 use Rattle.std.specs.Prelude.{◌==◌, if◌then◌else◌}
 use Rattle.std.specs.Int.{div_ceil}
 use Rattle.std.proofs.lemmas.Bool.Decides.{nat_tests}
@@ -19,12 +19,11 @@ use Rattle.fd_mini.specs.Places.{rounded_up, places_of}
 use Rattle.fd_mini.specs.Read.{header_in}
 use Rattle.fd_mini.specs.Readable.{IsReadable}
 use Rattle.fd_mini.specs.declared.header.MiniHeader.{MiniHeader}
-use Rattle.fd_mini.specs.declared.read.MiniFault.{MiniFault}
 use Rattle.fd_vmcore.specs.Ranges.{pairs_in, ranges_of, pages_in}
 use Rattle.fd_vmcore.specs.Sections.{Sections, bits_in, pages_end, long_enough, by_pages, bad_range, by_ranges, by_header, opened}
 use Rattle.fd_vmcore.specs.declared.open.OpenFault.{OpenFault}
 use Rattle.fd_dump.specs.Dumped.{is_dumped, pages_with_bits, dumped_bits}
-use Rattle.fd_dump.specs.Minidump.{avail_bytes, bitmap_bytes, mini_header_of, memory_of, minidump_of}
+use Rattle.fd_dump.specs.Minidump.{bitmap_bytes, mini_header_of, minidump_of}
 use Rattle.fd_way.proofs.AvailBack.{pairs_back, none_bad, few_pages}
 use Rattle.fd_way.proofs.BitmapBits.{bits_of-filled}
 use Rattle.fd_way.proofs.DumpedPages.{length-memory}

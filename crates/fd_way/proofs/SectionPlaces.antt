@@ -1,14 +1,12 @@
 -- Where the sections of an image's minidump stand, and how long they are.
-use Rattle.std.proofs.Common.{◌≡◌, ℕ, ◌+◌, ◌-◌, ◌*◌, ◌/◌, ◌%◌, ◌<◌, ◌≤◌, ◌^◌, min, Bool, true, false, List, [], ◌++◌, length, map, take, replicate, slice_range, refl, sym, ◌∙◌, ap, arith, append_assoc, append-nil, length-append, ◌∷◌, suc-mul}
+use Rattle.std.proofs.Common.{◌≡◌, ℕ, ◌+◌, ◌-◌, ◌*◌, ◌≤◌, Bool, true, false, List, [], ◌++◌, length, take, replicate, refl, ◌∙◌, ap, arith, append_assoc, append-nil, length-append}
 use Rattle.std.specs.Int.{w32, w64, to_le_bytes, div_ceil}
-use Rattle.std.specs.List.{flat_map, range_with_len, sum_by}
+use Rattle.std.specs.List.{flat_map, range_with_len}
 use Rattle.std.proofs.lemmas.List.{length-map, length-replicate, take_at}
-use Rattle.std.proofs.lemmas.List.Concat.{length-flat_map}
 use Rattle.std.proofs.lemmas.List.FromFn.{length-range_with_len}
 use Rattle.fd_bytes.specs.declared.arch.Arch.{Arch}
 use Rattle.fd_bytes.specs.declared.arch.Arch.TheVariants.{Amd64, Arm64, Riscv}
-use Rattle.fd_image.specs.Image.{MachineImage, IsValid}
-use Rattle.fd_pte.specs.Architecture.{directory_height_of}
+use Rattle.fd_image.specs.Image.{MachineImage}
 use Rattle.fd_pte.specs.Entry.{bytes_under}
 use Rattle.fd_walk.specs.Directory.{DirectoryForm, directory_entry, directory_bytes}
 use Rattle.fd_walk.specs.PageTables.{PageTables}

@@ -1,15 +1,15 @@
 -- The page directory of a minidump translates the addresses of the kernel window as the image's tables do.
-use Rattle.std.proofs.Common.{◌≡◌, ◌⊎◌, ℕ, zero, suc, ◌+◌, ◌-◌, ◌*◌, ◌/◌, ◌%◌, ◌<◌, ◌≤◌, ◌^◌, Bool, true, false, not, ◌&&◌, List, length, get_or, Option, Some, None, Result, Ok, Err, refl, sym, ◌∙◌, ap, subst, arith, inl, inr, lit<, mod-lt}
+use Rattle.std.proofs.Common.{◌≡◌, ℕ, ◌+◌, ◌-◌, ◌*◌, ◌/◌, ◌%◌, ◌<◌, ◌≤◌, ◌^◌, Bool, true, false, not, ◌&&◌, List, get_or, Option, Some, None, Ok, Err, refl, sym, ◌∙◌, ap, subst, arith, inl, inr, lit<}
 use Rattle.std.specs.Prelude.{if◌then◌else◌}
 use Rattle.std.specs.Int.{w64, to_le_bytes}
-use Rattle.std.specs.List.{range_with_len, flat_map}
+use Rattle.std.specs.List.{range_with_len}
 use Rattle.std.proofs.lemmas.Bool.{cases_lt}
 use Rattle.std.proofs.lemmas.List.FromFn.{length-range_with_len, get_or-range_with_len}
 use Rattle.fd_bytes.specs.Field.{u64_le_at}
 use Rattle.fd_bytes.specs.declared.arch.Arch.{Arch}
 use Rattle.fd_bytes.specs.declared.arch.Arch.TheVariants.{Amd64, Arm64, Riscv}
 use Rattle.fd_image.specs.Image.{MachineImage, IsValid}
-use Rattle.fd_image.specs.Physical.{page_start, word_of}
+use Rattle.fd_image.specs.Physical.{page_start}
 use Rattle.fd_pte.specs.Architecture.{kind_of, directory_height_of, levels_of}
 use Rattle.fd_pte.specs.Entry.{bytes_under, IsPlaced}
 use Rattle.fd_pte.specs.declared.entry.Kind.{Kind}
@@ -18,14 +18,13 @@ use Rattle.fd_walk.specs.Descent.{IsTable}
 use Rattle.fd_walk.specs.Directory as walk
 use Rattle.fd_walk.specs.Directory.{DirectoryForm, expanded_leaf, entry_or_expanded, directory_bytes}
 use Rattle.fd_walk.specs.Leaf.{MappedBy, leaf_of_kind, leaf_at, last_table, table_of_kind}
-use Rattle.fd_walk.specs.PageTables.{PageTables, entry_at, index_at, kind_of_entry, kind_at}
+use Rattle.fd_walk.specs.PageTables.{PageTables, entry_at, kind_of_entry, kind_at}
 use Rattle.fd_walk.proofs.DirectoryEntries.{unit_within}
 use Rattle.fd_walk.proofs.TablePath.{word_under, entry_at-below}
 use Rattle.fd_walk.proofs.Ways.{no_table}
 use Rattle.fd_mini.specs.Places.{places_of}
 use Rattle.fd_mini.specs.declared.header.MiniHeader.{MiniHeader}
-use Rattle.fd_mini.specs.declared.address_fault.AddressFault.{AddressFault}
-use Rattle.fd_mini.specs.declared.address_fault.AddressFault.TheVariants.{NotMapped, TableMissing}
+use Rattle.fd_mini.specs.declared.address_fault.AddressFault.TheVariants.{TableMissing}
 use Rattle.fd_vmcore.specs.Sections.{Sections, page_offset}
 use Rattle.fd_kvm.specs.Place as kvm
 use Rattle.fd_kvm.specs.Place.{by_table_entry, table_entry, by_table, by_entry, by_directory}

@@ -1,5 +1,5 @@
 -- The units of the page directory: what is the same for each architecture.
-use Rattle.std.proofs.Common.{◌≡◌, ℕ, ◌+◌, ◌-◌, ◌*◌, ◌/◌, ◌%◌, ◌<◌, ◌≤◌, ◌^◌, Bool, ◌&&◌, nat_le, nat_lt, refl, sym, ◌∙◌, ap, arith, lit<, lit≤}
+use Rattle.std.proofs.Common.{◌≡◌, ℕ, ◌+◌, ◌-◌, ◌*◌, ◌/◌, ◌%◌, ◌<◌, ◌≤◌, ◌^◌, ◌&&◌, nat_le, nat_lt, refl, sym, ◌∙◌, ap, arith, lit<, lit≤}
 use Rattle.std.proofs.lemmas.Bool.Decides.{nat_tests}
 use Rattle.std.proofs.lemmas.Nat.{mod-pow-add, field_of}
 use Rattle.fd_bytes.specs.declared.arch.Arch.{Arch}
@@ -11,7 +11,7 @@ use Rattle.fd_pte.specs.Architecture.{kind_of, directory_height_of, expansion_of
 use Rattle.fd_pte.specs.Arm64Laws.{arm64_placed, arm64_expanded}
 use Rattle.fd_pte.specs.Entry.{bytes_under, units_under, IsPlaced}
 use Rattle.fd_pte.specs.RiscvLaws.{riscv_placed, riscv_expanded}
-use Rattle.fd_pte.specs.declared.entry.Kind.TheVariants.{Absent, Table, Leaf}
+use Rattle.fd_pte.specs.declared.entry.Kind.TheVariants.{Absent, Leaf}
 use Rattle.fd_way.proofs.Limits.{AreWindows}
 
 pub some_levels : (arch : Arch) → directory_height_of arch < levels_of arch
