@@ -6,7 +6,7 @@ use Rattle.std.proofs.lemmas.List.Folds.{Any-from_list_any}
 use Rattle.std.proofs.lemmas.List.Sums.{get_or-le-sum_by}
 use Rattle.fd_bytes.specs.declared.arch.Arch.{Arch}
 use Rattle.fd_bytes.specs.declared.arch.Arch.TheVariants.{Amd64, Arm64, Riscv}
-use Rattle.fd_image.specs.Image.{MachineImage, IsValid, end_of, first_failing, beside_the_one_before, is_range_of_pages, ragged_pair, pair_end, pair_begins_at_or_after, lies_in_segment, is_within_limits, is_kernel_window, is_direct_map, kernel_end}
+use Rattle.fd_image.specs.Image.{MachineImage, IsValid, end_of, first_failing, beside_the_one_before, is_range_of_pages, ragged_pair, pair_end, pair_begins_at_or_after, lies_in_segment, is_within_limits, is_kernel_window, is_direct_map}
 use Rattle.fd_image.specs.Space.{space_of}
 use Rattle.fd_image.specs.declared.parts.Seg.{Seg}
 use Rattle.fd_image.specs.declared.parts.Windows.{Windows}
@@ -82,45 +82,29 @@ pair_short m valid k within d =
 pub record AreWindows (arch : Arch) (w : Windows) : Type 0 where
   pub kernbase : w.kernbase % bytes_under (directory_height_of arch + 1) ≡ 0
   pub kernspan : w.kernspan % bytes_under (directory_height_of arch + 1) ≡ 0
-  pub some : 0 < w.kernspan
   pub entries : 8 * (w.kernspan / bytes_under (directory_height_of arch)) < 2 ^ 32
   pub whole_pages : 8 * (w.kernspan / bytes_under (directory_height_of arch)) % 4096 ≡ 0
-  pub ends : kernel_end w ≤ 2 ^ 64
-  pub dmapbase : w.dmapbase % 4096 ≡ 0
-  pub dmapphys : w.dmapphys % 4096 ≡ 0
   pub unshifted : (space_of arch).shifts_direct_map ≡ false → w.dmapphys ≡ 0
 
 pub windows_kept : (arch : Arch) (w : Windows) → is_kernel_window arch w ≡ true → is_direct_map arch w ≡ true → AreWindows arch w
 windows_kept Amd64 w kernel direct = record {
   kernbase = grind (arith, nat_tests);
   kernspan = grind (arith, nat_tests);
-  some = grind (arith, nat_tests);
   entries = grind (arith, nat_tests);
   whole_pages = grind (arith, nat_tests);
-  ends = grind (arith, nat_tests);
-  dmapbase = grind (arith, nat_tests);
-  dmapphys = grind (arith, nat_tests);
   unshifted = λ shifts. grind (arith, nat_tests);
 }
 windows_kept Arm64 w kernel direct = record {
   kernbase = grind (arith, nat_tests);
   kernspan = grind (arith, nat_tests);
-  some = grind (arith, nat_tests);
   entries = grind (arith, nat_tests);
   whole_pages = grind (arith, nat_tests);
-  ends = grind (arith, nat_tests);
-  dmapbase = grind (arith, nat_tests);
-  dmapphys = grind (arith, nat_tests);
   unshifted = λ shifts. grind (arith, nat_tests);
 }
 windows_kept Riscv w kernel direct = record {
   kernbase = grind (arith, nat_tests);
   kernspan = grind (arith, nat_tests);
-  some = grind (arith, nat_tests);
   entries = grind (arith, nat_tests);
   whole_pages = grind (arith, nat_tests);
-  ends = grind (arith, nat_tests);
-  dmapbase = grind (arith, nat_tests);
-  dmapphys = grind (arith, nat_tests);
   unshifted = λ shifts. grind (arith, nat_tests);
 }

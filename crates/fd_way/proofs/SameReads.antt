@@ -1,4 +1,21 @@
--- What a read of kernel addresses gives of an image's minidump is what it gives of the image.
+-- What a read of kernel addresses gives of a valid image's minidump is what it gives of the image.
+--
+-- Both sides answer address by address, and in three steps: the file is opened, the kernel address is translated to a
+-- physical one, and the byte there is looked up. Each step of the file's side is shown to be the image's.
+--
+-- Opening (`Opening`). The file is six sections joined, and `SectionPlaces` says that each stands where the header page
+-- says; `Stands` is the word for a part of a list at its place. From the sections the reader gets back the header
+-- (by the law that header pages are read back, within the limits that `Limits` draws from the rules of a valid image),
+-- the ranges (`AvailBack`) and the bits (`BitmapBits`), with clear bits behind those of the pages.
+--
+-- Lookup (`Located`). Each physical address either has a page that is dumped, or not. If so, its bit is set, and its 4096
+-- bytes stand behind the pages of the set bits below (`DumpedPages`). If not, its bit is clear, or it has none since it
+-- isn't available.
+--
+-- Translation (`Translated`). In the direct map both sides compute the same. In the kernel window the directory has the
+-- entry of the address's unit (`Units`): the entry of the image's tables, or a unit of the larger leaf that maps the
+-- address, or 0. By cases on what entries the tables have (`TableEntries`) both translate alike. On amd64 the entry may
+-- name a last-level table, whose page is looked up in the file as above; its words are the image's (`ImageWords`).
 use Rattle.std.proofs.Common.{◌≡◌, ℕ, zero, suc, ◌+◌, ◌%◌, ◌^◌, Bool, true, false, ◌&&◌, nat_lt, List, [], Some, Result, Ok, Err, refl, sym, ◌∙◌, ap, arith, inl, inr}
 use Rattle.std.specs.Prelude.{if◌then◌else◌}
 use Rattle.std.proofs.lemmas.Bool.{cases_Bool}
