@@ -21,7 +21,7 @@ use Rattle.fd_way.proofs.Stands.{Stands, length-pieces}
 use Rattle.fd_way.proofs.Limits.{AreWindows}
 
 -- a multiple of a page's size is rounded up already
-pub rounded_up-twice : (size : ℕ) → rounded_up (rounded_up size) ≡ rounded_up size
+rounded_up-twice : (size : ℕ) → rounded_up (rounded_up size) ≡ rounded_up size
 rounded_up-twice size = omega arith
 
 pub length-filled : (bytes : List ℕ) → length (filled bytes) ≡ rounded_up (length bytes)
@@ -37,7 +37,7 @@ when_short : (has_field : Bool) (bytes : List ℕ) → length (mini.when has_fie
 when_short true bytes = omega arith
 when_short false bytes = omega arith
 
-pub length-page_of : (h : MiniHeader) → length (mini.page_of h) ≡ 4096
+length-page_of : (h : MiniHeader) → length (mini.page_of h) ≡ 4096
 unfolding mini.page_of
 length-page_of h =
     let short : length (mini.front_of h) ≤ 4096 =
@@ -50,11 +50,11 @@ length-avail_bytes avail =
     let pair_bytes = λ (pair : ℕ × ℕ). to_le_bytes w64 pair.0 ++ to_le_bytes w64 pair.1 in
     omega (arith, length-append (flat_map pair_bytes avail) (replicate 16 0), length-pieces pair_bytes 16 avail (λ pair. refl))
 
-pub length-bitmap_bytes : (bits : List Bool) → length (bitmap_bytes bits) ≡ div_ceil (length bits) 8
+length-bitmap_bytes : (bits : List Bool) → length (bitmap_bytes bits) ≡ div_ceil (length bits) 8
 length-bitmap_bytes bits =
     length-map (range_with_len 0 (div_ceil (length bits) 8)) (byte_at bits) ∙ length-range_with_len 0 (div_ceil (length bits) 8)
 
-pub length-directory_bytes : (t : PageTables) (form : DirectoryForm) (first count : ℕ) → length (directory_bytes t form first count) ≡ 8 * count
+length-directory_bytes : (t : PageTables) (form : DirectoryForm) (first count : ℕ) → length (directory_bytes t form first count) ≡ 8 * count
 unfolding directory_bytes
 length-directory_bytes t form first count =
     omega (arith, length-pieces (λ (unit : ℕ). to_le_bytes w64 (directory_entry t form (first + unit * bytes_under form.height))) 8 (range_with_len 0 count) (λ unit. refl), length-range_with_len 0 count)
@@ -102,7 +102,7 @@ module _ (m : MachineImage) (windows : AreWindows m.arch m.windows) where
   pub length-bitmap : length bitmap ≡ header.bitmapsize
   length-bitmap = length-filled (bitmap_bytes (dumped_bits m)) ∙ ap rounded_up (length-bitmap_bytes (dumped_bits m))
 
-  pub length-directory_of : length (directory_of m) ≡ header.pmapsize
+  length-directory_of : length (directory_of m) ≡ header.pmapsize
   length-directory_of = length-directory_bytes (tables_in m) (form_of m) m.windows.kernbase (entry_count m)
 
   -- the directory is a multiple of a page's size

@@ -13,7 +13,7 @@ use Rattle.fd_walk.proofs.TablePath.{word_under, entry_at-top, entry_at-below}
 use Rattle.fd_walk.proofs.Ways.{nothing_below, leaf_below-only}
 
 -- addresses with the same quotient by a size have the same quotient by each larger one, and so the same indices
-pub same_index : (low height va v : ℕ) → low ≤ height → va / bytes_under low ≡ v / bytes_under low → index_at height va ≡ index_at height v
+same_index : (low height va v : ℕ) → low ≤ height → va / bytes_under low ≡ v / bytes_under low → index_at height va ≡ index_at height v
 same_index low height va v above same =
     let exponent : 12 + 9 * low + 9 * (height - low) ≡ 12 + 9 * height = omega arith in
     let quotient : va / bytes_under height ≡ v / bytes_under height =
@@ -58,7 +58,7 @@ module _ (t : PageTables) where
   table_above height va bits within some =
       word_under-table t height va bits (kind_at t (height + 1) va) (sym (entry_at-below t height va within) ∙ some)
 
-  pub tables_above : (va : ℕ) (more height bits : ℕ) → height + more + 1 < t.levels → entry_at t height va ≡ Some bits → IsTable (kind_at t (height + more + 1) va)
+  tables_above : (va : ℕ) (more height bits : ℕ) → height + more + 1 < t.levels → entry_at t height va ≡ Some bits → IsTable (kind_at t (height + more + 1) va)
   tables_above va zero height bits within some =
       let here : height + 1 ≡ height + 0 + 1 = omega arith in
       subst (λ h. IsTable (kind_at t h va)) here (table_above height va bits (omega arith) some)
