@@ -1,4 +1,4 @@
 //! The whole way of a dump: what reading an image's minidump gives is what the image gives.
 #![tactic(auto)]
 
-pub const NOTHING: u8 = 0;
+pub mod laws;

@@ -1,0 +1,13 @@
+mod AvailBack
+mod BitmapBits
+mod DumpedPages
+mod ImageWords
+mod Limits
+mod Located
+mod Opening
+pub mod SameReads
+mod SectionPlaces
+mod Stands
+mod TableEntries
+mod Translated
+mod Units
