@@ -2,4 +2,8 @@
 //! walks of `fd_walk`, the bits of `fd_bitmap` and the header pages of `fd_mini`; follows FreeBSD's `minidump.h`.
 #![tactic(auto)]
 
-pub const NOTHING: u8 = 0;
+mod pages;
+mod plan;
+mod sections;
+
+pub use plan::Plan;

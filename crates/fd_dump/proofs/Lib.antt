@@ -1,0 +1,7 @@
+mod Appending
+pub mod Limits
+pub mod Sizes
+pub mod Dumping
+mod Directory
+mod Marking
+mod Memory
