@@ -66,7 +66,7 @@ directory-next m index =
     ∙ ap (λ first. directory_bytes (tables_in m) (form_of m) m.windows.kernbase (512 * index) ++ directory_bytes (tables_in m) (form_of m) first 512) place
 
 -- all pages have all entries
-whole_of : (arch : Arch) (w : Windows) → IsDivided arch w → 512 * (w.kernspan / page_span arch) ≡ w.kernspan / bytes_under (directory_height_of arch)
+pub whole_of : (arch : Arch) (w : Windows) → IsDivided arch w → 512 * (w.kernspan / page_span arch) ≡ w.kernspan / bytes_under (directory_height_of arch)
 whole_of Amd64 w divided = omega arith
 whole_of Arm64 w divided = omega arith
 whole_of Riscv w divided = omega arith

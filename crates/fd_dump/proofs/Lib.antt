@@ -1,5 +1,6 @@
 mod Appending
 pub mod Limits
+mod Ranges
 pub mod Sizes
 pub mod Dumping
 mod Directory

@@ -2,6 +2,8 @@
 //! walks of `fd_walk`, the bits of `fd_bitmap` and the header pages of `fd_mini`; follows FreeBSD's `minidump.h`.
 #![tactic(auto)]
 
+mod fields;
+mod minidump;
 mod pages;
 mod plan;
 mod sections;

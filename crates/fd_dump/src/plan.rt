@@ -1,12 +1,15 @@
 //! The minidump of a machine image, made once and given in pieces.
-ghost use Rattle.std.specs.Prelude.{◌≡◌, [], length};
+ghost use Rattle.std.specs.Prelude.{◌≡◌, [], length, IfOk};
 ghost use Rattle.fd_dump.specs.Minidump.{minidump_of};
 ghost use Rattle.fd_dump.specs.Header.{header_of};
 
-use fd_bytes::Label;
+use crate::minidump::minidump;
+use fd_bytes::{Arch, Label};
 use fd_image::Image;
 use fd_kdh::Header;
+use fd_pte::{Amd64, Arm64, Riscv};
 use fd_site::{Pieces, SlicePieces};
+use std::alloc::{AllocError, Global};
 use std::marker::Model;
 
 /// The minidump of a machine image, whole: its sections in order, each filled with zeros to a multiple of 4096
@@ -25,6 +28,18 @@ impl Model for Plan {
 }
 
 impl Plan {
+    /// The minidump of the image. The image's memory is passed over once.
+    pub fn prepare(alloc: Global, image: &Image) -> Result<Plan, AllocError>
+        ensures { IfOk result (λ plan. plan ≡ minidump_of image.now) }
+    {
+        let bytes = match image.arch() {
+            Arch::Amd64 => minidump::<Amd64, 4>(alloc, image)?,
+            Arch::Arm64 => minidump::<Arm64, 4>(alloc, image)?,
+            Arch::Riscv => minidump::<Riscv, 3>(alloc, image)?,
+        };
+        Ok(Plan { bytes })
+    }
+
     /// How many bytes the minidump has: a multiple of 4096.
     pub fn length(&self) -> u64
         ensures { result ≡ length self.now }

@@ -1,10 +1,10 @@
 -- Each page of the directory follows those before it.
-use Rattle.std.proofs.Common.{◌≡◌, ◌∙◌, ◌+◌, ◌*◌, ◌++◌, ap, sym, arith}
+use Rattle.std.proofs.Common.{◌≡◌, ◌∙◌, ◌+◌, ◌*◌, ◌/◌, ◌++◌, ap, sym, arith}
 use Rattle.std.proofs.lemmas.List.{append-nil}
 use Rattle.fd_walk.specs.Directory.{directory_bytes}
 use Rattle.fd_dump.specs.Dumped.{tables_in}
 use Rattle.fd_dump.specs.Minidump.{form_of}
-use Rattle.fd_dump.specs.Sections.{directory_page_of}
+use Rattle.fd_dump.specs.Sections.{page_span, directory_page_of}
 use Rattle.fd_dump.proofs.Appending.{appended}
 use Rattle.fd_dump.proofs.Directory.{directory_none, directory-next, whole_directory}
 use Rattle.fd_dump.proofs.sections.put_directory.Goals as goal
@@ -22,6 +22,10 @@ loop-index-preserved g c =
 
 pub returns : goal.returns
 returns g c =
+    let end : c.loop-index.index ≡ c.windows-span.result.kernspan / c.page_span.result = omega arith in
+    let is : c.loop-index.index ≡ c.args.image.now.windows.kernspan / page_span c.args.image.now.arch =
+      end ∙ ap (λ w. w.kernspan / c.page_span.result) c.windows-span.ensures.value
+      ∙ ap (λ span. c.args.image.now.windows.kernspan / span) (c.page_span.ensures ∙ ap page_span c.arch.ensures.value) in
     c.loop-index.invariant
     ∙ ap (λ count. c.args.out.now.items ++ directory_bytes (tables_in c.args.image.now) (form_of c.args.image.now) c.args.image.now.windows.kernbase count)
-    (whole_directory c.args.image.now c.loop-index.index ? ?)
+    (whole_directory c.args.image.now c.loop-index.index c.windows-span.ensures.valid is)
