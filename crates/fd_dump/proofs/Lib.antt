@@ -1,4 +1,5 @@
 mod Appending
+pub mod Headers
 pub mod Limits
 mod Ranges
 pub mod Sizes

@@ -23,12 +23,13 @@ pub(crate) fn minidump<E: Entry, const LEVELS: usize>(
     requires { Serves E.kind_of E.DIRECTORY_HEIGHT E.expansion LEVELS image.now.arch }
     ensures { IfOk result (λ bytes. bytes.items ≡ minidump_of image.now) }
 {
+    let texts = image.texts();
     let avail = pages_of(alloc, image)?;
     let map = dumped_bits::<E, LEVELS>(alloc, image, &avail)?;
     let header = mini_header(image, avail.bits());
     let mut out = Vec::with_capacity(alloc, whole_length(header, map.count()))?;
     put_header(&mut out, &header)?;
-    put_filled(&mut out, image.texts().msgbuf.as_slice())?;
+    put_filled(&mut out, texts.msgbuf.as_slice())?;
     put_avail(&mut out, image.avail())?;
     put_bitmap(&mut out, &map, avail.bits())?;
     put_directory::<E, LEVELS>(&mut out, image)?;
