@@ -1,5 +1,5 @@
 -- Lists that grow at their end.
-use Rattle.std.proofs.Common.{◌≡◌, ◌∙◌, ℕ, ◌+◌, ◌-◌, Bool, true, false, cond, List, [], ◌∷◌, ◌++◌, is_ok, Result, Ok, Err, OnOk, refl, ap, sym, append_assoc}
+use Rattle.std.proofs.Common.{◌≡◌, ◌∙◌, ℕ, cond, List, [], ◌++◌, is_ok, Result, Ok, Err, OnOk, ap, sym, append_assoc}
 
 pub appended : (old xs ys now was all : List ℕ) → was ≡ old ++ xs → now ≡ was ++ ys → all ≡ xs ++ ys → now ≡ old ++ all
 appended old xs ys now was all before after is = after ∙ ap (λ zs. zs ++ ys) before ∙ append_assoc old xs ys ∙ ap (λ zs. old ++ zs) (sym is)

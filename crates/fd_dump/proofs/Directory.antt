@@ -1,5 +1,5 @@
 -- The page directory, page by page.
-use Rattle.std.proofs.Common.{◌≡◌, ◌∙◌, ℕ, zero, suc, ◌+◌, ◌-◌, ◌*◌, ◌/◌, ◌%◌, ◌^◌, ◌<◌, ◌≤◌, List, [], ◌∷◌, ◌++◌, refl, ap, sym, arith, zero-add, append_assoc}
+use Rattle.std.proofs.Common.{◌≡◌, ◌∙◌, ℕ, zero, suc, ◌+◌, ◌*◌, ◌/◌, ◌^◌, ◌<◌, ◌≤◌, List, [], ◌∷◌, ◌++◌, refl, ap, arith, zero-add}
 use Rattle.std.specs.Int.{w64, to_le_bytes}
 use Rattle.std.specs.List.{flat_map, range_with_len}
 use Rattle.std.proofs.lemmas.List.Concat.{flat_map-append}
@@ -12,7 +12,7 @@ use Rattle.fd_pte.specs.Entry.{bytes_under}
 use Rattle.fd_walk.specs.PageTables.{PageTables}
 use Rattle.fd_walk.specs.Directory.{DirectoryForm, directory_bytes, directory_entry}
 use Rattle.fd_dump.specs.Dumped.{tables_in}
-use Rattle.fd_dump.specs.Minidump.{form_of, directory_of, entry_count}
+use Rattle.fd_dump.specs.Minidump.{form_of, entry_count}
 use Rattle.fd_dump.specs.Sections.{page_span, directory_page_of}
 use Rattle.fd_dump.proofs.Limits.{IsDivided, window_divided}
 
@@ -47,6 +47,7 @@ directory_parts t form first few more =
   where
     first_later : 0 + few ≡ few + 0
     first_later = omega arith
+
     same : (n : ℕ) → entry t form first (few + n) ≡ entry t form (first + few * bytes_under form.height) n
     same n = ap (λ va. to_le_bytes w64 (directory_entry t form va)) (omega arith)
 

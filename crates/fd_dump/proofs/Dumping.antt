@@ -1,14 +1,14 @@
 -- The bitmap of the dumped pages, from the marks of its three kinds of pages.
-use Rattle.std.proofs.Common.{◌≡◌, ◌∙◌, ℕ, zero, suc, ◌+◌, ◌-◌, ◌*◌, ◌/◌, ◌%◌, ◌^◌, ◌<◌, ◌≤◌, Bool, true, false, ◌&&◌, ◌||◌, List, [], ◌∷◌, ◌++◌, length, get_or, map, replicate, Option, Some, None, refl, ap, sym, subst, arith}
-use Rattle.std.specs.Prelude.{◌==◌, nat_le, nat_lt, All}
-use Rattle.std.specs.List.{list_any, range_with_len}
+use Rattle.std.proofs.Common.{◌≡◌, ◌∙◌, ℕ, suc, ◌+◌, ◌-◌, ◌*◌, ◌<◌, ◌≤◌, Bool, true, false, ◌&&◌, ◌||◌, List, [], ◌∷◌, length, get_or, map, replicate, refl, ap, sym, subst, arith}
+use Rattle.std.specs.Prelude.{nat_le, nat_lt, All}
+use Rattle.std.specs.List.{list_any}
 use Rattle.std.proofs.lemmas.Bool.Decides.{nat_tests}
-use Rattle.std.proofs.lemmas.List.Elements.{All-append, All-head, All-tail}
+use Rattle.std.proofs.lemmas.List.Elements.{All-append}
 use Rattle.std.proofs.lemmas.List.FromFn.{length-range_with_len, get_or-range_with_len}
 use Rattle.fd_bitmap.specs.Pages.{pages_of, consecutive, first_page, end_page}
 use Rattle.fd_image.specs.Image.{MachineImage, IsValid, is_range_of_pages}
 use Rattle.fd_image.specs.declared.parts.Windows.{Windows}
-use Rattle.fd_dump.specs.Dumped.{is_available, is_reached, is_wanted, is_mapped, is_last_table, dumps_last_tables, is_dumped, pages_with_bits, dumped_bits}
+use Rattle.fd_dump.specs.Dumped.{is_available, is_reached, is_wanted, is_mapped, is_last_table, dumps_last_tables, is_dumped, dumped_bits}
 use Rattle.fd_dump.specs.Marks.{marked, is_markable}
 use Rattle.fd_dump.proofs.Limits.{pairs_of_pages}
 use Rattle.fd_dump.proofs.Marking.{marked-or, marked-clear}
@@ -43,7 +43,7 @@ all_available (pair ∷ pairs) whole =
     All-append (λ page. list_any (is_in (page * 4096)) (pair ∷ pairs) ≡ true) (consecutive (first_page pair) (end_page pair - first_page pair)) (pages_of pairs)
     (in_first pair pairs (whole 0 pair (omega arith)))
     (λ k d within. ap (λ b. is_in (get_or (pages_of pairs) k d * 4096) pair || b) (all_available pairs (λ i e h. whole (suc i) e (omega arith)) k d within)
-      ∙ or-true (is_in (get_or (pages_of pairs) k d * 4096) pair))
+    ∙ or-true (is_in (get_or (pages_of pairs) k d * 4096) pair))
 
 -- a page is wanted, mapped or a table that is dumped
 abbrev is_chosen : MachineImage → ℕ → Bool
@@ -67,7 +67,7 @@ pub marked_is_dumped : (m : MachineImage) (w : Windows) (pages : List ℕ) → I
 marked_is_dumped m w pages valid is_w is_pages =
     rw (is_w, is_pages)
     (sym (marked-or m.windows (λ page. is_wanted m page || is_mapped m page) (λ page. dumps_last_tables m.arch && is_last_table m page) (pages_of m.avail) (replicate (length (pages_of m.avail)) false)
-      ∙ ap (marked m.windows (λ page. dumps_last_tables m.arch && is_last_table m page) (pages_of m.avail))
-      (marked-or m.windows (is_wanted m) (is_mapped m) (pages_of m.avail) (replicate (length (pages_of m.avail)) false)))
+    ∙ ap (marked m.windows (λ page. dumps_last_tables m.arch && is_last_table m page) (pages_of m.avail))
+    (marked-or m.windows (is_wanted m) (is_mapped m) (pages_of m.avail) (replicate (length (pages_of m.avail)) false)))
     ∙ marked-clear m.windows (is_chosen m) (pages_of m.avail)
     ∙ dumped_from m (pages_of m.avail) (all_available m.avail (pairs_of_pages m valid)))

@@ -1,5 +1,5 @@
 -- The dump header of a valid image is one that its fields hold.
-use Rattle.std.proofs.Common.{◌≡◌, ◌∙◌, ℕ, zero, suc, ◌+◌, ◌-◌, ◌<◌, ◌≤◌, ◌^◌, Bool, true, false, ◌&&◌, cond, List, [], ◌∷◌, ◌++◌, length, get_or, take, refl, ap, sym, arith, lit<, lit≤, length-append, length-take}
+use Rattle.std.proofs.Common.{◌≡◌, ◌∙◌, ℕ, zero, suc, ◌-◌, ◌<◌, ◌≤◌, ◌^◌, Bool, true, false, ◌&&◌, cond, List, [], ◌∷◌, ◌++◌, length, take, refl, ap, arith, lit<, lit≤, length-append, length-take}
 use Rattle.std.specs.Prelude.{◌==◌, nat_lt, All, if◌then◌else◌}
 use Rattle.std.specs.List.{list_all}
 use Rattle.std.proofs.lemmas.Bool.Decides.{nat_tests}
@@ -9,8 +9,7 @@ use Rattle.fd_bytes.specs.declared.arch.Arch.TheVariants.{Amd64, Arm64, Riscv}
 use Rattle.fd_bytes.specs.Arch.{name_of, header_version_of}
 use Rattle.fd_bytes.specs.Label.{IsText, text_of, cut_text, cut_version_text}
 use Rattle.fd_image.specs.Image.{MachineImage, IsValid, AreBytes}
-use Rattle.fd_kdh.specs.Header.{IsByteText, FitsFields, IsWithinFields}
-use Rattle.fd_dump.specs.Minidump.{minidump_of}
+use Rattle.fd_kdh.specs.Header.{IsByteText, IsWithinFields}
 use Rattle.fd_dump.specs.Header.{header_of}
 use Rattle.fd_dump.proofs.Sizes.{minidump_small}
 
@@ -72,8 +71,10 @@ version_is_text n bytes are = here (nat_lt (length (text_of bytes)) n)
   where
     text : IsText (text_of bytes)
     text = text-text_of bytes
+
     all : All (λ byte. byte < 256) (text_of bytes)
     all = all-text_of bytes are
+
     here : (short : Bool) → IsByteText (if short then text_of bytes else take (n - 2) (text_of bytes) ++ 10 ∷ [])
     here true = record { no_zero = text; bytes = all }
     here false = record {

@@ -1,8 +1,8 @@
 -- What the rules of a valid image say of its windows, ranges and texts.
-use Rattle.std.proofs.Common.{◌≡◌, ◌∙◌, ℕ, zero, suc, ◌+◌, ◌-◌, ◌*◌, ◌/◌, ◌%◌, ◌^◌, ◌<◌, ◌≤◌, Bool, true, false, ◌&&◌, ◌||◌, List, [], ◌∷◌, length, get_or, Option, Some, None, ◌++◌, sum_by, refl, ap, sym, arith, lit≤, length-append}
+use Rattle.std.proofs.Common.{◌≡◌, ◌∙◌, ℕ, suc, ◌+◌, ◌-◌, ◌*◌, ◌/◌, ◌%◌, ◌^◌, ◌≤◌, Bool, true, false, ◌&&◌, ◌||◌, List, [], ◌∷◌, length, get_or, None, sum_by, refl, ap, sym, arith, lit≤, length-append}
 use Rattle.std.proofs.Math.Dec.{eqb-suc-zero}
-use Rattle.std.specs.Prelude.{◌==◌, nat_le, nat_lt, All}
-use Rattle.std.specs.List.{list_any, range_with_len}
+use Rattle.std.specs.Prelude.{nat_le, All}
+use Rattle.std.specs.List.{range_with_len}
 use Rattle.std.proofs.lemmas.List.FromFn.{length-range_with_len}
 use Rattle.fd_bitmap.specs.Pages.{pages_of, consecutive, first_page, end_page}
 use Rattle.std.proofs.lemmas.Bool.Decides.{nat_tests}
@@ -82,6 +82,7 @@ in_segment (seg ∷ segs) pair lies = here (nat_le seg.start pair.0 && nat_le pa
   where
     sum : sum_by (λ (seg : Seg). length seg.bytes) (seg ∷ segs) ≡ length seg.bytes + sum_by (λ seg. length seg.bytes) segs
     sum = sum_by-cons (λ (seg : Seg). length seg.bytes) seg segs
+
     here : (b : Bool) → (nat_le seg.start pair.0 && nat_le pair.1 (end_of seg)) ≡ b
         → (lies_in_segment segs pair ≡ true → pair.1 ≤ pair.0 + sum_by (λ seg. length seg.bytes) segs) → pair.1 ≤ pair.0 + sum_by (λ seg. length seg.bytes) (seg ∷ segs)
     here true is later = let ends : pair.1 ≤ pair.0 + length seg.bytes = grind (arith, nat_tests) in omega (arith, sum)
@@ -106,8 +107,12 @@ few_pages (pair ∷ pairs) whole short =
     let count = end_page pair - first_page pair in
     let aligned : pair.0 % 4096 ≡ 0 = grind (arith, nat_tests) in
     let few : count ≤ 2 ^ 18 = omega arith in
-    omega (arith, length-append (range_with_len (first_page pair) count) (pages_of pairs), length-range_with_len (first_page pair) count,
-      few_pages pairs (λ k d h. whole (suc k) d (omega arith)) (λ k d h. short (suc k) d (omega arith)))
+    omega (
+      arith,
+      length-append (range_with_len (first_page pair) count) (pages_of pairs),
+      length-range_with_len (first_page pair) count,
+      few_pages pairs (λ k d h. whole (suc k) d (omega arith)) (λ k d h. short (suc k) d (omega arith)),
+    )
 
 -- so there are at most 2^28 pages that have a bit
 pub pages_few : (m : MachineImage) → IsValid m → length (pages_of m.avail) ≤ 2 ^ 28

@@ -1,5 +1,5 @@
 -- Bits that are set for the pages that pass a test.
-use Rattle.std.proofs.Common.{◌≡◌, ◌∙◌, ℕ, zero, suc, ◌+◌, ◌-◌, ◌*◌, ◌/◌, ◌%◌, ◌<◌, ◌≤◌, ◌^◌, min, max, Bool, true, false, ◌&&◌, ◌||◌, List, [], ◌∷◌, length, get_or, set, drop, map, replicate, Option, Some, None, refl, ap, sym, subst, arith, inl, inr, add-one, drop-cons}
+use Rattle.std.proofs.Common.{◌≡◌, ◌∙◌, ℕ, zero, suc, ◌+◌, ◌-◌, ◌*◌, ◌/◌, ◌%◌, ◌<◌, ◌≤◌, ◌^◌, min, max, Bool, true, false, ◌&&◌, ◌||◌, List, [], ◌∷◌, length, get_or, set, drop, map, replicate, Some, None, refl, ap, sym, arith, inl, inr, add-one, drop-cons}
 use Rattle.std.specs.Prelude.{◌==◌, nat_le, nat_lt}
 use Rattle.std.specs.Int.{div_ceil}
 use Rattle.std.specs.List.{list_any}
@@ -66,8 +66,8 @@ place_from-ge number place found [] is = absurd cc
 place_from-ge number place found (page ∷ pages) is = elim (eqb_tells page number) [
   | inl same ↦ let here : place ≡ found = cc (place_from-here number place page pages same.1) in (omega arith, omega arith)
   | inr other ↦
-    let rest = place_from-ge number (place + 1) found pages (sym (place_from-later number place page pages other.1) ∙ is) in
-    (omega arith, omega arith)
+      let rest = place_from-ge number (place + 1) found pages (sym (place_from-later number place page pages other.1) ∙ is) in
+      (omega arith, omega arith)
 ]
 
 -- of pages that rise, one alone is a number
@@ -83,9 +83,9 @@ joined-place number place bit [] bits rise is = absurd cc
 joined-place number place bit (page ∷ pages) [] rise is = refl
 joined-place number place zero (page ∷ pages) (b ∷ bits) rise is = elim (eqb_tells page number) [
   | inl same ↦
-    let later : joined (λ page. page == number) pages bits ≡ bits = joined-here number pages bits (λ k h. let far = rise 0 (suc k) (omega arith) (omega arith) in omega arith) in
-    let here : (b || (page == number)) ≡ true = ap (λ t. b || t) same.0 ∙ or-true b in
-    cc
+      let later : joined (λ page. page == number) pages bits ≡ bits = joined-here number pages bits (λ k h. let far = rise 0 (suc k) (omega arith) (omega arith) in omega arith) in
+      let here : (b || (page == number)) ≡ true = ap (λ t. b || t) same.0 ∙ or-true b in
+      cc
   | inr other ↦ let rest = place_from-ge number (place + 1) (place + 0) pages (sym (place_from-later number place page pages other.1) ∙ is) in absurd (omega arith)
 ]
   where
@@ -95,10 +95,10 @@ joined-place number place zero (page ∷ pages) (b ∷ bits) rise is = elim (eqb
 joined-place number place (suc bit) (page ∷ pages) (b ∷ bits) rise is = elim (eqb_tells page number) [
   | inl same ↦ let here : Some place ≡ Some (place + suc bit) = sym (place_from-here number place page pages same.1) ∙ is in let e : place ≡ place + suc bit = cc in absurd (omega arith)
   | inr other ↦
-    let at : place + suc bit ≡ place + 1 + bit = omega arith in
-    let later = joined-place number (place + 1) bit pages bits (λ i j h l. rise (suc i) (suc j) (omega arith) (omega arith)) (sym (place_from-later number place page pages other.1) ∙ is ∙ ap Some at) in
-    let here : (b || (page == number)) ≡ b = ap (λ t. b || t) other.0 ∙ or-false b in
-    cc
+      let at : place + suc bit ≡ place + 1 + bit = omega arith in
+      let later = joined-place number (place + 1) bit pages bits (λ i j h l. rise (suc i) (suc j) (omega arith) (omega arith)) (sym (place_from-later number place page pages other.1) ∙ is ∙ ap Some at) in
+      let here : (b || (page == number)) ≡ b = ap (λ t. b || t) other.0 ∙ or-false b in
+      cc
 ]
 
 joined-missing : (number place : ℕ) (pages : List ℕ) (bits : List Bool) → place_from number place pages ≡ None
@@ -108,9 +108,9 @@ joined-missing number place (page ∷ pages) [] is = refl
 joined-missing number place (page ∷ pages) (b ∷ bits) is = elim (eqb_tells page number) [
   | inl same ↦ absurd (cc (place_from-here number place page pages same.1))
   | inr other ↦
-    let later = joined-missing number (place + 1) pages bits (sym (place_from-later number place page pages other.1) ∙ is) in
-    let here : (b || (page == number)) ≡ b = ap (λ t. b || t) other.0 ∙ or-false b in
-    cc
+      let later = joined-missing number (place + 1) pages bits (sym (place_from-later number place page pages other.1) ∙ is) in
+      let here : (b || (page == number)) ≡ b = ap (λ t. b || t) other.0 ∙ or-false b in
+      cc
 ]
 
 and-false : (b : Bool) → (b && false) ≡ false
@@ -124,12 +124,12 @@ and-both a b is_a is_b = rw (is_a, is_b)
 is_page : (w : Windows) (pa : ℕ) → pa % 4096 ≡ 0 → is_reached w pa ≡ true → (page : ℕ) → (page == pa / 4096) ≡ is_markable w (λ address. pa == address) page
 is_page w pa aligned reached page = elim (eqb_tells page (pa / 4096)) [
   | inl same ↦
-    let at : pa ≡ page * 4096 = omega arith in
-    let reaches : is_reached w (page * 4096) ≡ true = ap (is_reached w) (sym at) ∙ reached in
-    same.0 ∙ sym (and-both (is_reached w (page * 4096)) (pa == page * 4096) reaches (eq-eqb pa (page * 4096) at))
+      let at : pa ≡ page * 4096 = omega arith in
+      let reaches : is_reached w (page * 4096) ≡ true = ap (is_reached w) (sym at) ∙ reached in
+      same.0 ∙ sym (and-both (is_reached w (page * 4096)) (pa == page * 4096) reaches (eq-eqb pa (page * 4096) at))
   | inr other ↦
-    let apart : (pa == page * 4096) ≡ false = ne_eqb pa (page * 4096) (λ e. other.1 (omega arith)) in
-    other.0 ∙ sym (ap (λ b. is_reached w (page * 4096) && b) apart ∙ and-false (is_reached w (page * 4096)))
+      let apart : (pa == page * 4096) ≡ false = ne_eqb pa (page * 4096) (λ e. other.1 (omega arith)) in
+      other.0 ∙ sym (ap (λ b. is_reached w (page * 4096) && b) apart ∙ and-false (is_reached w (page * 4096)))
 ]
 
 pub length-marked : (w : Windows) (test : ℕ → Bool) (pages : List ℕ) (bits : List Bool) → length (marked w test pages bits) ≡ length bits

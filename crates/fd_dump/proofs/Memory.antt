@@ -1,6 +1,6 @@
 -- The dumped pages' bytes, bit by bit.
-use Rattle.std.proofs.Common.{◌≡◌, ◌∙◌, ℕ, zero, suc, ◌+◌, ◌*◌, ◌<◌, ◌≤◌, Bool, true, false, cond, List, [], ◌∷◌, ◌++◌, length, get_or, map, take, Option, Some, None, refl, ap, sym, arith}
-use Rattle.std.specs.Prelude.{slice_get, slice_index, unwrap_or, option_map}
+use Rattle.std.proofs.Common.{◌≡◌, ◌∙◌, ℕ, zero, suc, ◌+◌, ◌*◌, ◌<◌, Bool, true, false, cond, List, [], ◌∷◌, ◌++◌, length, get_or, map, take, Option, Some, None, refl, ap, arith}
+use Rattle.std.specs.Prelude.{slice_get, slice_index, unwrap_or}
 use Rattle.std.specs.List.{concat, filter, filter_map, flat_map, cons_option}
 use Rattle.std.proofs.lemmas.List.{take_more, append-nil, length-map}
 use Rattle.std.proofs.lemmas.List.Concat.{flat_map-append}

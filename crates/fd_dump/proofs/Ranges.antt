@@ -1,7 +1,7 @@
 -- The ranges of a valid image follow one another, page by page.
-use Rattle.std.proofs.Common.{◌≡◌, ◌∙◌, ℕ, zero, suc, ◌+◌, ◌*◌, ◌/◌, ◌%◌, ◌<◌, ◌≤◌, Bool, true, false, ◌||◌, not, List, [], ◌∷◌, length, get_or, map, Option, Some, None, refl, ap, sym, arith}
-use Rattle.std.specs.Prelude.{nat_le, nat_lt, All, position}
-use Rattle.std.specs.List.{position_or_len, zip}
+use Rattle.std.proofs.Common.{◌≡◌, ◌∙◌, ℕ, zero, suc, ◌%◌, ◌<◌, ◌≤◌, true, false, List, ◌∷◌, length, get_or, map, None, ap, sym, arith}
+use Rattle.std.specs.Prelude.{All}
+use Rattle.std.specs.List.{position_or_len}
 use Rattle.std.proofs.lemmas.Bool.Decides.{nat_tests}
 use Rattle.std.proofs.lemmas.List.{get_or-map, length-map}
 use Rattle.std.proofs.lemmas.List.Sums.{position_or_len_is}
@@ -42,14 +42,14 @@ module _ (pairs : List (ℕ × ℕ)) (whole : All (λ pair. is_range_of_pages pa
   none_bad : first_bad pairs ≡ None
   none_bad =
       let place : position_or_len is_bad (with_ends_before pairs) ≡ length (with_ends_before pairs) =
-        position_or_len_is is_bad (with_ends_before pairs) (length (with_ends_before pairs)) (0, (0, 0)) (omega arith)
-        (λ k h. let within : k < length pairs = omega (arith, length-with_ends) in
-          ap is_bad (get_or-zip (0 ∷ map end_page pairs) pairs k (0, (0, 0)) (omega (arith, length-map pairs end_page)) within) ∙ good_at k (0, 0) within)
-        (λ h. absurd (omega arith)) in
+      position_or_len_is is_bad (with_ends_before pairs) (length (with_ends_before pairs)) (0, (0, 0)) (omega arith)
+      (λ k h. let within : k < length pairs = omega (arith, length-with_ends) in
+      ap is_bad (get_or-zip (0 ∷ map end_page pairs) pairs k (0, (0, 0)) (omega (arith, length-map pairs end_page)) within) ∙ good_at k (0, 0) within)
+      (λ h. absurd (omega arith)) in
       grind (arith, nat_tests)
 
 pub ranges_good : (m : MachineImage) → IsValid m → first_bad m.avail ≡ None
 ranges_good m valid =
     none_bad m.avail (pairs_of_pages m valid)
     (λ k within d. ap pair_begins_at_or_after (sym (get_or-beside pair_end m.avail k d within))
-      ∙ passes pair_begins_at_or_after (beside_the_one_before pair_end m.avail) (rules_kept m valid.unbroken).pairs_in_order k (omega (arith, length-beside pair_end m.avail)) (0, d))
+    ∙ passes pair_begins_at_or_after (beside_the_one_before pair_end m.avail) (rules_kept m valid.unbroken).pairs_in_order k (omega (arith, length-beside pair_end m.avail)) (0, d))

@@ -7,5 +7,7 @@ mod minidump;
 mod pages;
 mod plan;
 mod sections;
+#[cfg(test)]
+mod tests;
 
 pub use plan::Plan;

@@ -88,8 +88,17 @@ fn mark_leaf(map: &mut Bitmap, avail: &Avail, windows: &Windows, leaf: &Leaf)
 {
     // No page that the direct map doesn't reach is looked at.
     let start = leaf.pa.max(windows.dmapphys);
-    let end = leaf.pa.saturating_add(leaf.size).min(direct_map_end(windows));
-    mark_pages(map, avail, windows, start.div_ceil(4096), end.div_ceil(4096));
+    let end = leaf
+        .pa
+        .saturating_add(leaf.size)
+        .min(direct_map_end(windows));
+    mark_pages(
+        map,
+        avail,
+        windows,
+        start.div_ceil(4096),
+        end.div_ceil(4096),
+    );
 }
 
 /// Sets the bits of the pages that the kernel window maps.
@@ -108,7 +117,12 @@ fn mark_mapped<E: Entry, const LEVELS: usize>(
     ensures marks { map.new ≡ marked windows.now (is_mapped image.now) avail.now map.old }
     ensures bits { length map.new ≡ length map.old }
 {
-    for leaf in Walker::<E, LEVELS>::leaves(image, image.root(), windows.kernbase, windows.kernspan) {
+    for leaf in Walker::<E, LEVELS>::leaves(
+        image,
+        image.root(),
+        windows.kernbase,
+        windows.kernspan,
+    ) {
         mark_leaf(map, avail, windows, &leaf);
     }
 }
@@ -129,7 +143,12 @@ fn mark_last_tables<E: Entry, const LEVELS: usize>(
     ensures marks { map.new ≡ marked windows.now (is_last_table image.now) avail.now map.old }
     ensures bits { length map.new ≡ length map.old }
 {
-    for table in Walker::<E, LEVELS>::tables(image, image.root(), windows.kernbase, windows.kernspan) {
+    for table in Walker::<E, LEVELS>::tables(
+        image,
+        image.root(),
+        windows.kernbase,
+        windows.kernspan,
+    ) {
         mark(map, avail, windows, table);
     }
 }

@@ -1,5 +1,5 @@
 -- The sizes fit their fields, because the image keeps its limits.
-use Rattle.std.proofs.Common.{◌≡◌, ◌∙◌, ◌≤◌, ◌^◌, length, ap, arith}
+use Rattle.std.proofs.Common.{length, ap, arith}
 use Rattle.fd_dump.proofs.Limits.{small, pages_few}
 use Rattle.fd_dump.proofs.fields.mini_header.Goals as goal
 

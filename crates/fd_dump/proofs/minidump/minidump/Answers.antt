@@ -1,5 +1,5 @@
 -- The image keeps its limits, and the sections are those of its minidump, in their order.
-use Rattle.std.proofs.Common.{◌≡◌, ◌∙◌, ◌≤◌, ◌^◌, ◌++◌, length, ap, arith}
+use Rattle.std.proofs.Common.{◌∙◌, ◌++◌, length, ap, arith}
 use Rattle.std.proofs.lemmas.List.Sums.{count_by-le-length}
 use Rattle.fd_mini.specs.Page as mini
 use Rattle.fd_dump.specs.Dumped.{dumped_bits}

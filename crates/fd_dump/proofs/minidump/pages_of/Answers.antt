@@ -1,5 +1,5 @@
 -- A valid image has no bad range.
-use Rattle.std.proofs.Common.{◌≡◌, ◌∙◌, ℕ, Some, None, sym, ap}
+use Rattle.std.proofs.Common.{◌≡◌, ◌∙◌, Some, None, sym, ap}
 use Rattle.fd_bitmap.specs.Pages.{first_bad}
 use Rattle.fd_dump.proofs.Ranges.{ranges_good}
 use Rattle.fd_dump.proofs.minidump.pages_of.Goals as goal

@@ -1,11 +1,10 @@
 -- The bits are set of the wanted pages, then of the mapped ones, then of the tables.
-use Rattle.std.proofs.Common.{◌≡◌, ◌∙◌, ℕ, ◌≤◌, ◌^◌, List, Bool, true, false, ◌&&◌, length, replicate, Result, Ok, Err, is_ok, IfOk, ap, sym}
+use Rattle.std.proofs.Common.{◌≡◌, ◌∙◌, ℕ, List, Bool, true, false, ◌&&◌, length, replicate, Result, Ok, Err, is_ok, IfOk, ap, sym}
 use Rattle.std.specs.Prelude.{◌==◌, MatchResult}
 use Rattle.std.specs.List.{list_any}
 use Rattle.std.specs.declared.alloc.AllocError.{AllocError}
 use Rattle.fd_bitmap.specs.declared.bitmap.NoMemory.{NoMemory}
 use Rattle.std.proofs.lemmas.List.{length-replicate}
-use Rattle.fd_image.specs.Image.{direct_map_end}
 use Rattle.fd_dump.specs.Dumped.{is_wanted, is_mapped, is_last_table, dumps_last_tables}
 use Rattle.fd_dump.specs.Marks.{marked}
 use Rattle.fd_dump.proofs.Limits.{direct_map_low}
@@ -52,8 +51,8 @@ returns g c =
     c.mark_dumped_tables.ensures.marks
     ∙ ap (marked c.windows-windows.result (λ page. dumps_last_tables c.args.image.now.arch && is_last_table c.args.image.now page) c.args.avail.now)
     (c.mark_mapped.ensures.marks
-      ∙ ap (marked c.windows-windows.result (is_mapped c.args.image.now) c.args.avail.now)
-      (c.mark_wanted.ensures.marks
-        ∙ ap (λ wanted. marked c.windows-windows.result (λ address. list_any (λ page. page == address) wanted) c.args.avail.now c.in_ok-map.map) c.wanted.ensures.value
-        ∙ ap (marked c.windows-windows.result (is_wanted c.args.image.now) c.args.avail.now) new))
+    ∙ ap (marked c.windows-windows.result (is_mapped c.args.image.now) c.args.avail.now)
+    (c.mark_wanted.ensures.marks
+    ∙ ap (λ wanted. marked c.windows-windows.result (λ address. list_any (λ page. page == address) wanted) c.args.avail.now c.in_ok-map.map) c.wanted.ensures.value
+    ∙ ap (marked c.windows-windows.result (is_wanted c.args.image.now) c.args.avail.now) new))
     ∙ marked_is_dumped c.args.image.now c.windows-windows.result c.args.avail.now c.windows-windows.ensures.valid c.windows-windows.ensures.value c.requires.pages

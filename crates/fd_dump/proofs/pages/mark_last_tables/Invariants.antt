@@ -8,5 +8,5 @@ use Rattle.fd_dump.proofs.pages.mark_last_tables.Given as goal
 abbrev pub invariant-loop-table : goal.invariant-loop-table
 invariant-loop-table g l = record {
   marks : marked l.windows (λ address. list_any (λ table. table == address) l.table-iterator) l.avail l.map ≡ marked l.windows (is_last_table l.image) l.avail l.fn.map;
-  bits : length l.map ≡ length l.fn.map
+  bits : length l.map ≡ length l.fn.map;
 }

@@ -1,10 +1,10 @@
 -- The first leaf that is left is marked, and then the later ones.
-use Rattle.std.proofs.Common.{◌≡◌, ◌∙◌, ◌%◌, ◌≤◌, ◌+◌, ◌^◌, ap, sym, lit<, arith}
+use Rattle.std.proofs.Common.{◌≡◌, ◌∙◌, ◌%◌, ◌≤◌, ◌+◌, ◌^◌, ap, sym, lit<}
 use Rattle.std.specs.List.{list_any}
 use Rattle.fd_dump.specs.Dumped.{is_under_leaf}
 use Rattle.fd_dump.specs.Marks.{marked}
 use Rattle.fd_image.proofs.Valid.{root_is_aligned}
-use Rattle.fd_dump.proofs.Limits.{IsTall, tall_of, IsDivided, window_divided}
+use Rattle.fd_dump.proofs.Limits.{tall_of, window_divided}
 use Rattle.fd_dump.proofs.Marking.{marked-each, marked-empty}
 use Rattle.fd_dump.proofs.pages.mark_mapped.Goals as goal
 

@@ -7,5 +7,5 @@ use Rattle.fd_dump.proofs.pages.mark_mapped.Given as goal
 abbrev pub invariant-loop-leaf : goal.invariant-loop-leaf
 invariant-loop-leaf g l = record {
   marks : marked l.windows (λ address. list_any (is_under_leaf address) l.leaf-iterator) l.avail l.map ≡ marked l.windows (is_mapped l.image) l.avail l.fn.map;
-  bits : length l.map ≡ length l.fn.map
+  bits : length l.map ≡ length l.fn.map;
 }

@@ -8,5 +8,5 @@ abbrev pub invariant-loop-page : goal.invariant-loop-page
 invariant-loop-page l = record {
   marks : marked l.windows (λ address. list_any (λ page. page == address) (drop l.page-index l.wanted)) l.avail l.map
       ≡ marked l.windows (λ address. list_any (λ page. page == address) l.wanted) l.avail l.fn.map;
-  bits : length l.map ≡ length l.fn.map
+  bits : length l.map ≡ length l.fn.map;
 }

@@ -24,8 +24,8 @@ pub returns : goal.returns
 returns g c =
     let end : c.loop-index.index ≡ c.windows-span.result.kernspan / c.page_span.result = omega arith in
     let is : c.loop-index.index ≡ c.args.image.now.windows.kernspan / page_span c.args.image.now.arch =
-      end ∙ ap (λ w. w.kernspan / c.page_span.result) c.windows-span.ensures.value
-      ∙ ap (λ span. c.args.image.now.windows.kernspan / span) (c.page_span.ensures ∙ ap page_span c.arch.ensures.value) in
+    end ∙ ap (λ w. w.kernspan / c.page_span.result) c.windows-span.ensures.value
+    ∙ ap (λ span. c.args.image.now.windows.kernspan / span) (c.page_span.ensures ∙ ap page_span c.arch.ensures.value) in
     c.loop-index.invariant
     ∙ ap (λ count. c.args.out.now.items ++ directory_bytes (tables_in c.args.image.now) (form_of c.args.image.now) c.args.image.now.windows.kernbase count)
     (whole_directory c.args.image.now c.loop-index.index c.windows-span.ensures.valid is)

@@ -1,5 +1,5 @@
 -- The zeros are as many as are missing to a multiple of 4096.
-use Rattle.std.proofs.Common.{◌≡◌, ◌∙◌, ℕ, ◌-◌, ◌%◌, ◌≤◌, List, take, replicate, ap, arith}
+use Rattle.std.proofs.Common.{◌≡◌, ◌∙◌, ℕ, ◌-◌, ◌%◌, take, replicate, ap, arith}
 use Rattle.std.proofs.lemmas.List.{take-replicate}
 use Rattle.fd_mini.specs.Places.{rounded_up}
 use Rattle.fd_dump.proofs.Appending.{appends}

@@ -1,5 +1,5 @@
 -- Behind all pairs there is one of zeros.
-use Rattle.std.proofs.Common.{◌≡◌, ◌∙◌, ℕ, List, ◌++◌, take, refl, ap, arith}
+use Rattle.std.proofs.Common.{◌∙◌, ℕ, List, ◌++◌, refl, ap, arith}
 use Rattle.std.specs.Int.{w64, to_le_bytes}
 use Rattle.std.specs.List.{flat_map}
 use Rattle.std.proofs.lemmas.List.{take_all}

@@ -1,5 +1,4 @@
 -- A valid image's minidump has a multiple of 4096 bytes.
-use Rattle.std.proofs.Common.{◌≡◌, ◌%◌, List, ℕ, length, subst, sym, ◌∙◌}
 use Rattle.fd_dump.proofs.Sizes.{minidump_pages}
 use Rattle.fd_dump.proofs.plan.Plan.pieces.Goals as goal
 
