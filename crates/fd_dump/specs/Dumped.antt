@@ -1,7 +1,7 @@
 -- The pages of a machine image that its dump has: those that are available and lie in the direct map, and are wanted,
 -- or mapped in the kernel window, or, on amd64, hold a last-level table of that window.
 -- Source: the kernel's minidump_machdep.c of each architecture; that pages can be wanted is this project's own.
-use Rattle.std.specs.Prelude.{ℕ, ◌+◌, ◌-◌, ◌*◌, Bool, true, false, ◌&&◌, ◌||◌, ◌==◌, nat_le, nat_lt, List, map}
+use Rattle.std.specs.Prelude.{ℕ, ◌+◌, ◌*◌, Bool, true, false, ◌&&◌, ◌||◌, ◌==◌, nat_le, nat_lt, List, map}
 use Rattle.std.specs.List.{filter, list_any}
 use Rattle.fd_bytes.specs.declared.arch.Arch.{Arch}
 use Rattle.fd_bytes.specs.declared.arch.Arch.TheVariants.{Amd64, Arm64, Riscv}

@@ -2,4 +2,12 @@
 //! walks of `fd_walk`, the bits of `fd_bitmap` and the header pages of `fd_mini`; follows FreeBSD's `minidump.h`.
 #![tactic(auto)]
 
-pub const NOTHING: u8 = 0;
+mod fields;
+mod minidump;
+mod pages;
+mod plan;
+mod sections;
+#[cfg(test)]
+mod tests;
+
+pub use plan::Plan;

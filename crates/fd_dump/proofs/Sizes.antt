@@ -1,0 +1,144 @@
+-- How many bytes the sections have.
+use Rattle.std.proofs.Common.{◌≡◌, ◌∙◌, ℕ, zero, suc, ◌+◌, ◌-◌, ◌*◌, ◌%◌, ◌^◌, ◌<◌, ◌≤◌, Bool, true, false, List, [], ◌∷◌, ◌++◌, length, replicate, Option, Some, None, refl, ap, arith, length-append, lit≤, drop, length-take, length-drop, if◌then◌else◌}
+use Rattle.std.specs.Int.{w64, to_le_bytes, div_ceil}
+use Rattle.std.specs.List.{flat_map, range_with_len}
+use Rattle.std.proofs.lemmas.List.{length-replicate}
+use Rattle.std.proofs.lemmas.List.FromFn.{length-map-range_with_len}
+use Rattle.fd_bytes.specs.declared.arch.Arch.{Arch}
+use Rattle.fd_bytes.specs.declared.arch.Arch.TheVariants.{Amd64, Arm64, Riscv}
+use Rattle.fd_walk.specs.PageTables.{PageTables}
+use Rattle.fd_walk.specs.Directory.{DirectoryForm, directory_bytes, directory_entry}
+use Rattle.fd_pte.specs.Entry.{bytes_under}
+use Rattle.fd_mini.specs.declared.header.MiniHeader.{MiniHeader}
+use Rattle.fd_mini.specs.Page as mini
+use Rattle.fd_mini.specs.Places.{rounded_up}
+use Rattle.fd_image.specs.Image.{MachineImage, IsValid}
+use Rattle.fd_image.specs.Image.{is_whole_pages}
+use Rattle.fd_image.specs.Physical as physical
+use Rattle.fd_image.specs.Physical.{has_address}
+use Rattle.fd_image.specs.declared.parts.Seg.{Seg}
+use Rattle.fd_image.proofs.Valid.{segment_found}
+use Rattle.fd_bitmap.specs.Bits.{byte_at}
+use Rattle.fd_bitmap.specs.Pages.{pages_of}
+use Rattle.std.specs.Option.{option_map}
+use Rattle.std.proofs.lemmas.List.{length-map}
+use Rattle.std.proofs.lemmas.Bool.Decides.{nat_tests}
+use Rattle.fd_dump.specs.Dumped.{tables_in, is_dumped, pages_with_bits, dumped_bits}
+use Rattle.fd_dump.specs.Minidump.{filled, avail_bytes, bitmap_bytes, form_of, entry_count, directory_of, memory_of, mini_header_of, minidump_of}
+use Rattle.fd_dump.specs.Sections.{bytes_of, dumped_bytes}
+use Rattle.fd_dump.proofs.Limits.{pages_few, small, window_divided}
+use Rattle.fd_dump.proofs.Memory.{memory_by_page}
+use Rattle.fd_dump.proofs.Directory.{whole_of}
+
+front_length : (arch : Arch) (h : MiniHeader) → h.arch ≡ arch → length (mini.front_of h) ≤ 4096
+front_length Amd64 h is = rw is (lit≤ tt)
+front_length Arm64 h is = rw is (lit≤ tt)
+front_length Riscv h is = rw is (lit≤ tt)
+
+-- a header page has 4096 bytes
+pub length-page_of : (h : MiniHeader) → length (mini.page_of h) ≡ 4096
+unfolding mini.page_of
+length-page_of h = omega (arith, length-append (mini.front_of h) (replicate (4096 - length (mini.front_of h)) 0), length-replicate {A = ℕ} (4096 - length (mini.front_of h)) 0, front_length h.arch h refl)
+
+-- a filled section has its size, rounded up
+pub length-filled : (bytes : List ℕ) → length (filled bytes) ≡ rounded_up (length bytes)
+length-filled bytes = omega (arith, length-append bytes (replicate (rounded_up (length bytes) - length bytes) 0), length-replicate {A = ℕ} (rounded_up (length bytes) - length bytes) 0)
+
+-- eight bytes an entry
+entries_length : (entry : ℕ → ℕ) (first count : ℕ) → length (flat_map (λ unit. to_le_bytes w64 (entry unit)) (range_with_len first count)) ≡ 8 * count
+entries_length entry first zero = refl
+entries_length entry first (suc count) = omega (arith, entries_length entry (first + 1) count)
+
+pub length-directory : (t : PageTables) (form : DirectoryForm) (first count : ℕ) → length (directory_bytes t form first count) ≡ 8 * count
+unfolding directory_bytes
+length-directory t form first count = entries_length (λ unit. directory_entry t form (first + unit * bytes_under form.height)) 0 count
+
+-- sixteen bytes a pair, and sixteen more
+pairs_length : (avail : List (ℕ × ℕ)) → length (flat_map (λ pair. to_le_bytes w64 pair.0 ++ to_le_bytes w64 pair.1) avail) ≡ 16 * length avail
+pairs_length [] = refl
+pairs_length (pair ∷ avail) = omega (arith, pairs_length avail)
+
+pub length-avail : (avail : List (ℕ × ℕ)) → length (avail_bytes avail) ≡ 16 * length avail + 16
+length-avail avail =
+    length-append (flat_map (λ pair. to_le_bytes w64 pair.0 ++ to_le_bytes w64 pair.1) avail) (replicate 16 0) ∙ ap (λ n. n + 16) (pairs_length avail)
+
+-- as many bytes as the bits take
+pub length-bits : (m : MachineImage) → length (dumped_bits m) ≡ length (pages_of m.avail)
+length-bits m = length-map (pages_with_bits m) (is_dumped m) ∙ length-map (pages_of m.avail) (λ page. page * 4096)
+
+pub length-bitmap : (bits : List Bool) → length (bitmap_bytes bits) ≡ div_ceil (length bits) 8
+length-bitmap bits = length-map-range_with_len (byte_at bits) 0 (div_ceil (length bits) 8)
+
+-- a page of an image has 4096 bytes
+page_bytes : (seg : Seg) (pa : ℕ) → has_address pa seg ≡ true → is_whole_pages seg ≡ true → length (physical.page_in seg pa) ≡ 4096
+page_bytes seg pa has whole =
+    let begins : seg.start ≤ pa = grind (arith, nat_tests) in
+    let ends : pa < seg.start + length seg.bytes = grind (arith, nat_tests) in
+    let aligned : seg.start % 4096 ≡ 0 = grind (arith, nat_tests) in
+    let pages : length seg.bytes % 4096 ≡ 0 = grind (arith, nat_tests) in
+    let at = physical.page_start pa - seg.start in
+    let room : at + 4096 ≤ length seg.bytes = omega arith in
+    length-take (at + 4096 - at) (drop at seg.bytes) ∙ omega (arith, length-drop at seg.bytes)
+
+found_bytes : (m : MachineImage) (pa : ℕ) (found : Option Seg) → IsValid m → physical.segment_of m pa ≡ found
+    → (count : ℕ) × (count ≤ 1) × (length (bytes_of (option_map (λ seg. physical.page_in seg pa) found)) ≡ 4096 * count)
+found_bytes m pa None valid is = (0, lit≤ tt, refl)
+found_bytes m pa (Some seg) valid is = let has = segment_found m pa seg valid is in (1, lit≤ tt, page_bytes seg pa has.0 has.1)
+
+-- a page that is dumped takes 4096 bytes, and another none
+taken : (m : MachineImage) (page : ℕ) → IsValid m → (count : ℕ) × (count ≤ 1) × (length (dumped_bytes m page) ≡ 4096 * count)
+unfolding physical.page_of
+taken m page valid = here (is_dumped m page)
+  where
+    here : (dumped : Bool) → (count : ℕ) × (count ≤ 1) × (length (if dumped then bytes_of (physical.page_of m page) else []) ≡ 4096 * count)
+    here true = found_bytes m page (physical.segment_of m page) valid refl
+    here false = (0, lit≤ tt, refl)
+
+all_taken : (m : MachineImage) (pages : List ℕ) → IsValid m → (count : ℕ) × (count ≤ length pages) × (length (flat_map (dumped_bytes m) pages) ≡ 4096 * count)
+all_taken m [] valid = (0, lit≤ tt, refl)
+all_taken m (page ∷ pages) valid =
+    let first = taken m page valid in
+    let later = all_taken m pages valid in
+    (first.0 + later.0, omega arith, length-append (dumped_bytes m page) (flat_map (dumped_bytes m) pages) ∙ omega arith)
+
+-- the dumped pages are whole, and at most 2^28
+pub length-memory : (m : MachineImage) → IsValid m → (count : ℕ) × (count ≤ 2 ^ 28) × (length (memory_of m) ≡ 4096 * count)
+length-memory m valid =
+    let all = all_taken m (pages_with_bits m) valid in
+    (all.0, omega (arith, pages_few m valid, length-map (pages_of m.avail) (λ page. page * 4096)), ap length (memory_by_page m) ∙ all.2)
+
+-- the sizes of the six sections
+six_lengths : (a b c d e f : List ℕ) (header msgbuf avail bitmap directory : ℕ)
+    → length a ≡ header → length b ≡ msgbuf → length c ≡ avail → length d ≡ bitmap → length e ≡ directory
+    → length (a ++ b ++ c ++ d ++ e ++ f) ≡ header + msgbuf + avail + bitmap + directory + length f
+six_lengths a b c d e f header msgbuf avail bitmap directory is_a is_b is_c is_d is_e = simp length-append (omega arith)
+
+length-minidump : (m : MachineImage) → length (minidump_of m)
+    ≡ 4096 + rounded_up (length m.texts.msgbuf) + rounded_up (16 * length m.avail + 16) + rounded_up (div_ceil (length (pages_of m.avail)) 8) + 8 * entry_count m + length (memory_of m)
+unfolding minidump_of
+length-minidump m =
+    six_lengths (mini.page_of (mini_header_of m)) (filled m.texts.msgbuf) (filled (avail_bytes m.avail)) (filled (bitmap_bytes (dumped_bits m))) (directory_of m) (memory_of m) 4096
+    (rounded_up (length m.texts.msgbuf)) (rounded_up (16 * length m.avail + 16)) (rounded_up (div_ceil (length (pages_of m.avail)) 8)) (8 * entry_count m)
+    (length-page_of (mini_header_of m))
+    (length-filled m.texts.msgbuf)
+    (length-filled (avail_bytes m.avail) ∙ ap rounded_up (length-avail m.avail))
+    (length-filled (bitmap_bytes (dumped_bits m)) ∙ ap rounded_up (length-bitmap (dumped_bits m) ∙ ap (λ n. div_ceil n 8) (length-bits m)))
+    (length-directory (tables_in m) (form_of m) m.windows.kernbase (entry_count m))
+
+pub minidump_pages : (m : MachineImage) → IsValid m → length (minidump_of m) % 4096 ≡ 0
+minidump_pages m valid =
+    let memory = length-memory m valid in
+    let whole = whole_of m.arch m.windows (window_divided m valid) in
+    omega (arith, length-minidump m, whole, memory.2)
+
+pub minidump_some : (m : MachineImage) → IsValid m → 0 < length (minidump_of m)
+minidump_some m valid = omega (arith, length-minidump m)
+
+pub minidump_small : (m : MachineImage) → IsValid m → length (minidump_of m) ≤ 2 ^ 62
+minidump_small m valid =
+    let memory = length-memory m valid in
+    let limits = small m valid in
+    let window = window_divided m valid in
+    omega (arith, length-minidump m, pages_few m valid, memory.1, memory.2)
+
+pub ruleset lengths = (length-avail, length-bits)

@@ -1,0 +1,217 @@
+//! Minidumps of three small machines, byte by byte where it tells.
+use crate::Plan;
+use fd_bytes::Arch;
+use fd_image::{Image, Parts, Seg, Sequence, Texts, Windows};
+use fd_site::Pieces;
+use std::alloc::{AllocError, Global};
+use std::test::Fail;
+
+// The words of the machines' memories: page tables of an amd64 machine, pages that hold their own addresses, and zeros.
+fn word_at(pa: u64) -> u64 {
+    match pa {
+        0x10_0fe0 => 0x10_1003,
+        0x10_1000 => 0x4000_0083,
+        0x10_1008 => 0x10_2003,
+        0x10_2000 => 0x10_3003,
+        0x10_2008 => 0x6000_0003,
+        0x10_3000 => 0x10_4003,
+        0x10_3008 => 0x8000_0000_0010_5001,
+        0x10_3010 => 0x6000_0003,
+        _ => match pa / 4096 {
+            0x104 | 0x105 | 0x401ff | 0x40200 | 0x60000 => pa,
+            0x80001 | 0x80002 | 0x80004 => pa,
+            _ => 0,
+        },
+    }
+}
+
+fn segment(alloc: Global, start: u64, pages: u64) -> Result<Seg, AllocError> {
+    let mut bytes = Vec::new(alloc);
+    for index in 0..pages.min(6) * 512 {
+        bytes.extend_from_slice(&word_at(start.wrapping_add(8 * index)).to_le_bytes())?;
+    }
+    let bytes = Sequence::new(bytes);
+    Ok(Seg { start, bytes })
+}
+
+fn texts(alloc: Global, msgbuf: &[u8]) -> Result<Texts, AllocError> {
+    Ok(Texts {
+        host: Sequence::new(b"rv".to_vec(alloc)?),
+        version: Sequence::new(b"FreeBSD 14".to_vec(alloc)?),
+        panic: Sequence::new(b"test".to_vec(alloc)?),
+        msgbuf: Sequence::new(msgbuf.to_vec(alloc)?),
+        time: 1_700_000_000,
+    })
+}
+
+fn valid(parts: Parts) -> Result<Image, Fail> {
+    Ok(Image::new(parts).ok().ok_or("a valid image")?)
+}
+
+// One segment, whose page tables are empty, and three wanted pages.
+fn riscv(alloc: Global) -> Result<Image, Fail> {
+    let start = 0x8000_0000;
+    valid(Parts {
+        arch: Arch::Riscv,
+        segs: Sequence::new(vec![in alloc; segment(alloc, start, 6)?]?),
+        avail: Sequence::new(vec![in alloc; (start, start + 0x6000)]?),
+        wanted: Sequence::new(vec![in alloc; start + 0x1000, start + 0x2000, start + 0x4000]?),
+        root: start,
+        windows: Windows {
+            kernbase: 0xffff_ffc0_0000_0000,
+            kernspan: 0x20_0000,
+            dmapbase: 0xffff_ffd0_0000_0000,
+            dmapend: 0xffff_ffd0_0000_6000,
+            dmapphys: start,
+        },
+        texts: texts(alloc, b"panic: test\n")?,
+    })
+}
+
+// A leaf of 1 GiB, a last-level table, and a page that is mapped and not available.
+fn amd64(alloc: Global) -> Result<Image, Fail> {
+    let segs = vec![in alloc;
+        segment(alloc, 0x10_0000, 6)?,
+        segment(alloc, 0x401f_f000, 2)?,
+        segment(alloc, 0x6000_0000, 1)?,
+    ]?;
+    valid(Parts {
+        arch: Arch::Amd64,
+        segs: Sequence::new(segs),
+        avail: Sequence::new(
+            vec![in alloc; (0x10_0000, 0x10_6000), (0x401f_f000, 0x4020_1000)]?,
+        ),
+        wanted: Sequence::new(vec![in alloc; 0x10_0000]?),
+        root: 0x10_0000,
+        windows: Windows {
+            kernbase: 0xffff_fe00_0000_0000,
+            kernspan: 0x8000_0000,
+            dmapbase: 0xffff_f800_0000_0000,
+            dmapend: 0xffff_f800_8000_0000,
+            dmapphys: 0,
+        },
+        texts: texts(alloc, b"")?,
+    })
+}
+
+// Two wanted pages, of which the direct map reaches one.
+fn arm64(alloc: Global) -> Result<Image, Fail> {
+    let start = 0x8000_0000;
+    valid(Parts {
+        arch: Arch::Arm64,
+        segs: Sequence::new(vec![in alloc; segment(alloc, start, 3)?]?),
+        avail: Sequence::new(vec![in alloc; (start, start + 0x3000)]?),
+        wanted: Sequence::new(vec![in alloc; start + 0x1000, start + 0x2000]?),
+        root: start,
+        windows: Windows {
+            kernbase: 0xffff_0000_0000_0000,
+            kernspan: 0x40_0000,
+            dmapbase: 0xffff_a000_0000_0000,
+            dmapend: 0xffff_a000_0000_2000,
+            dmapphys: start,
+        },
+        texts: texts(alloc, b"")?,
+    })
+}
+
+// The minidump, put together from its pieces.
+fn dump_of(alloc: Global, image: &Image) -> Result<Vec<u8>, AllocError> {
+    let plan = Plan::prepare(alloc, image)?;
+    let mut bytes = Vec::new(alloc);
+    let mut pieces = plan.pieces(image);
+    for _ in 0..plan.length() / 4096 {
+        pieces.advance();
+        bytes.extend_from_slice(pieces.piece())?;
+    }
+    Ok(bytes)
+}
+
+// The bytes at a place, or none where the place isn't in the dump.
+fn bytes_at(dump: &[u8], at: usize, count: usize) -> &[u8] {
+    if at > dump.len() || count > dump.len() - at {
+        return &[];
+    }
+    &dump[at..at + count]
+}
+
+// The little-endian word at a place.
+fn word_in(dump: &[u8], at: usize) -> Option<u64> {
+    match bytes_at(dump, at, 8) {
+        [a, b, c, d, e, f, g, h] => {
+            Some(u64::from_le_bytes([*a, *b, *c, *d, *e, *f, *g, *h]))
+        }
+        _ => None,
+    }
+}
+
+#[test]
+fn sections_stand_in_order(rt: HostRuntime) -> Result<(), Fail> {
+    let image = riscv(rt.alloc())?;
+    let dump = dump_of(rt.alloc(), &image)?;
+    assert_eq!(rt; dump.len(), 32768);
+    let sizes: [u8; 16] = [2, 0, 0, 0, 12, 0, 0, 0, 0, 16, 0, 0, 0, 16, 0, 0];
+    assert_eq!(rt; bytes_at(dump.as_slice(), 24, 16), sizes.as_slice());
+    assert_eq!(rt; bytes_at(dump.as_slice(), 4096, 13), b"panic: test\n\0".as_slice());
+    for (at, word) in [
+        (8192, 0x8000_0000),
+        (8200, 0x8000_6000),
+        (8208, 0),
+        (8216, 0),
+        (12288, 0x16),
+        (16384, 0),
+        (20480, 0x8000_1000),
+        (24576, 0x8000_2000),
+        (28672, 0x8000_4000),
+        (32760, 0x8000_4ff8),
+    ] {
+        assert_eq!(rt; word_in(dump.as_slice(), at), Some(word), "at {at}");
+    }
+    Ok(())
+}
+
+#[test]
+fn leaves_and_last_level_tables_are_dumped(rt: HostRuntime) -> Result<(), Fail> {
+    let image = amd64(rt.alloc())?;
+    let dump = dump_of(rt.alloc(), &image)?;
+    assert_eq!(rt; dump.len(), 45056);
+    for (at, word) in [
+        (4096, 0x10_0000),
+        (8192, 0xf9),
+        (12288, 0x4000_0083),
+        (12296, 0x4020_0083),
+        (16376, 0x7fe0_0083),
+        (16384, 0x10_3003),
+        (16392, 0x6000_0003),
+        (24576, 0x10_4003),
+        (32768, 0x10_5000),
+        (36864, 0x401f_f000),
+        (40960, 0x4020_0000),
+    ] {
+        assert_eq!(rt; word_in(dump.as_slice(), at), Some(word), "at {at}");
+    }
+    Ok(())
+}
+
+#[test]
+fn pages_outside_the_direct_map_are_left_out(rt: HostRuntime) -> Result<(), Fail> {
+    let image = arm64(rt.alloc())?;
+    let dump = dump_of(rt.alloc(), &image)?;
+    assert_eq!(rt; dump.len(), 24576);
+    assert_eq!(rt; word_in(dump.as_slice(), 8192), Some(2));
+    assert_eq!(rt; word_in(dump.as_slice(), 20480), Some(0x8000_1000));
+    Ok(())
+}
+
+#[test]
+fn the_header_tells_of_the_dump(rt: HostRuntime) -> Result<(), Fail> {
+    let image = riscv(rt.alloc())?;
+    let plan = Plan::prepare(rt.alloc(), &image)?;
+    let header = plan.header(&image, 512);
+    assert_eq!(rt; (header.dumplength, header.dumpextent), (32768, 32768));
+    assert_eq!(rt; (header.dumptime, header.blocksize), (1_700_000_000, 512));
+    assert_eq!(rt; header.architecture.bytes(), b"riscv64".as_slice());
+    assert_eq!(rt; header.hostname.bytes(), b"rv".as_slice());
+    assert_eq!(rt; header.versionstring.bytes(), b"FreeBSD 14".as_slice());
+    assert_eq!(rt; header.panicstring.bytes(), b"test".as_slice());
+    Ok(())
+}
