@@ -1,2 +1,4 @@
-pub mod Answered
-pub mod Hex
+mod Answers
+mod Begun
+mod Cuts
+mod Refused

@@ -1,2 +1,6 @@
+pub mod Command
+pub mod Dump
+pub mod Ending
 pub mod Outcome
 pub mod Refusal
+pub mod Reply

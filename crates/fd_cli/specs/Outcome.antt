@@ -1,59 +1,96 @@
--- What each command prints, and the status that it ends with.
-use Rattle.std.specs.Prelude.{◌≡◌, ◌⊎◌, ℕ, Bool, true, false, List, [], ◌∷◌, ◌++◌, take, codes, if◌then◌else◌, Option, Some, None}
-use Rattle.std.specs.Fmt.{decimal}
-use Rattle.std.specs.Str.{bytes_eq}
-use Rattle.fd_site.specs.Contents.{Contents, Told, part_of}
-use Rattle.fd_site.specs.Trace.{grown}
-use Rattle.fd_part.specs.Partition.{is_good}
+-- What each command answers, by what the site holds.
+use Rattle.std.specs.Prelude.{◌≡◌, ℕ, false, nat_lt, if◌then◌else◌, List, length, Option, Some, None, Result, Ok, Err}
+use Rattle.std.specs.Bool.{OnTrue, OnFalse}
+use Rattle.fd_site.specs.Contents.{Contents, Told, file_of, part_of}
+use Rattle.fd_image.specs.Image.{MachineImage}
+use Rattle.fd_imgfile.specs.Reading.{IsReading}
+use Rattle.fd_imgfile.specs.declared.fault.ImageFault.{ImageFault}
+use Rattle.fd_imgfile.specs.declared.fault.ImageFault.TheVariants as image
+use Rattle.fd_dump.specs.Minidump.{minidump_of}
+use Rattle.fd_part.specs.Partition.{is_good, need_of}
 use Rattle.fd_judge.specs.Verdict.{judged}
-use Rattle.fd_cli.specs.Refusal.{line_of, status_of}
 use Rattle.fd_judge.specs.declared.verdict.Verdict.{Verdict}
 use Rattle.fd_judge.specs.declared.verdict.Verdict.TheVariants as verdict
-use Rattle.fd_cli.specs.declared.refusal.Refusal.{Refusal}
-use Rattle.fd_cli.specs.declared.refusal.Refusal.TheVariants.{Judged, Partition, NotCommand}
+use Rattle.fd_mini.specs.Kernel.{KernelBytes}
+use Rattle.fd_mini.specs.declared.address_fault.AddressFault.{AddressFault}
+use Rattle.fd_vmcore.specs.Sections.{Sections, opened_file}
+use Rattle.fd_vmcore.specs.declared.open.OpenFault.{OpenFault}
+use Rattle.fd_vmcore.specs.declared.open.OpenFault.TheVariants as vmcore
+use Rattle.fd_kvm.specs.Answer.{answer_of}
+use Rattle.fd_cli.specs.declared.refusal.Refusal.TheVariants.{Judged, Address, NoFile, NotImage, BadImage, NoRoom, Partition, Mini, Short, BadAvail, NotCommand}
 use Rattle.fd_cli.specs.declared.answer.Answer.{Answer}
-use Rattle.fd_cli.specs.declared.answer.Answer.TheVariants.{Dump, Refused}
+use Rattle.fd_cli.specs.declared.answer.Answer.TheVariants.{Dump, Dumped, Read, Refused}
 use Rattle.fd_cli.specs.declared.command.Command.{Command}
-use Rattle.fd_cli.specs.declared.command.Command.TheVariants.{Judge}
+use Rattle.fd_cli.specs.declared.command.Command.TheVariants as command
 
--- the command that these words are, if they are one
-abbrev pub command_of : List (List ℕ) → Option Command
-command_of (name ∷ option ∷ []) =
-    if bytes_eq name (codes "savecore") then (if bytes_eq option (codes "-C") then Some Judge else None) else None
-command_of words = None
+-- P of the answer over a partition that is good; one that isn't is refused
+abbrev pub OnGood : (size block : ℕ) → (Answer → Type 0) → Answer → Type 0
+OnGood size block P answer =
+    OnTrue (is_good size block) (P answer) × OnFalse (is_good size block) (answer ≡ Refused (Partition size block))
 
 -- the answer of `savecore -C`, by the verdict
 abbrev pub verdict_answer : Verdict → Answer
 verdict_answer (verdict.Dump h at sector) = Dump h.dumplength
 verdict_answer (verdict.Refused why) = Refused (Judged why)
 
--- the answer of a command over a partition of a size and a block, by the verdict on it
-abbrev pub answer_of : Option Command → ℕ → ℕ → Verdict → Answer
-answer_of None size block v = Refused NotCommand
-answer_of (Some Judge) size block v = if is_good size block then verdict_answer v else Refused (Partition size block)
-
--- the answer's line, without its newline
-abbrev pub answer_text : Answer → List ℕ
-answer_text (Dump len) = codes "dump " ++ decimal len
-answer_text (Refused refusal) = line_of refusal
-
-abbrev pub answer_status : Answer → ℕ
-answer_status (Dump len) = 0
-answer_status (Refused refusal) = status_of refusal
-
 -- a verdict that stands for the partition: where its bytes are told, theirs
-abbrev pub StandsFor : Option Contents → ℕ → Verdict → Type 0
-StandsFor told block v = Told told (λ c. v ≡ judged (part_of c) block false)
+abbrev pub IsVerdict : Option Contents → ℕ → Verdict → Type 0
+IsVerdict told block v = Told told (λ c. v ≡ judged (part_of c) block false)
 
--- the answer to a command over a site that tells this, by a verdict that stands for its partition
-pub record IsAnswer (told : Option Contents) (size block : ℕ) (command : Option Command) (answer : Answer) : Type 0 where
-  pub verdict : Verdict
-  pub stands : StandsFor told block verdict
-  pub is : answer ≡ answer_of command size block verdict
+-- the answer of `savecore -C` over a good partition
+abbrev pub IsJudgeAnswer : Option Contents → (block : ℕ) → Answer → Type 0
+IsJudgeAnswer told block answer = (v : Verdict) × IsVerdict told block v × (answer ≡ verdict_answer v)
 
--- A call ended with this answer: its status, after its whole text was printed. Or the call ended for want of
--- memory (71) or by a fault (74), after a part of that text.
-abbrev pub EndsWith : ℕ → Option (List ℕ) → Option (List ℕ) → Answer → Type 0
-EndsWith status old new answer =
-    ((status ≡ answer_status answer) × (new ≡ grown old (answer_text answer ++ 10 ∷ [])))
-    ⊎ (((status ≡ 71) ⊎ (status ≡ 74)) × ((n : ℕ) × (new ≡ grown old (take n (answer_text answer ++ 10 ∷ [])))))
+-- the answer of `dump`, by the room that the partition has for a minidump of this length
+abbrev pub room_answer : (size block len : ℕ) → Answer
+room_answer size block len =
+    if nat_lt size (need_of block len) then Refused (NoRoom (need_of block len) size) else Dumped len
+
+-- the answer of `dump`, by what reading the image's file answers
+abbrev pub IsAnswerToImage : (size block : ℕ) → Result MachineImage ImageFault → Answer → Type 0
+IsAnswerToImage size block (Ok m) answer = answer ≡ room_answer size block (length (minidump_of m))
+IsAnswerToImage size block (Err image.NoFile) answer = answer ≡ Refused NoFile
+IsAnswerToImage size block (Err (image.NotImage place)) answer = answer ≡ Refused (NotImage place)
+IsAnswerToImage size block (Err (image.BadImage bad)) answer = answer ≡ Refused (BadImage bad)
+IsAnswerToImage size block (Err image.SiteFault) answer = ⊥
+IsAnswerToImage size block (Err image.NoMemory) answer = ⊥
+
+-- the answer of `dump` over a good partition
+abbrev pub IsDumpAnswer : Option Contents → (size block : ℕ) → (name : List ℕ) → Answer → Type 0
+IsDumpAnswer told size block name answer =
+    (reading : Result MachineImage ImageFault) × Told told (λ c. IsReading (file_of c name) reading) × IsAnswerToImage size block reading answer
+
+-- the answer of `read`, by the first fault of an address
+abbrev pub bytes_answer : (va : ℕ) → KernelBytes → Answer
+bytes_answer va given = by_fault given.fault
+  where
+    by_fault : Option AddressFault → Answer
+    by_fault None = Read va given.bytes
+    by_fault (Some fault) = Refused (Address fault)
+
+-- the answer of `read`, by what the file answers
+abbrev pub IsAnswerToFile : (va : ℕ) → Result KernelBytes OpenFault → Answer → Type 0
+IsAnswerToFile va (Ok given) answer = answer ≡ bytes_answer va given
+IsAnswerToFile va (Err vmcore.NoFile) answer = answer ≡ Refused NoFile
+IsAnswerToFile va (Err (vmcore.Short need have)) answer = answer ≡ Refused (Short need have)
+IsAnswerToFile va (Err (vmcore.Mini fault)) answer = answer ≡ Refused (Mini fault)
+IsAnswerToFile va (Err (vmcore.BadAvail index)) answer = answer ≡ Refused (BadAvail index)
+IsAnswerToFile va (Err vmcore.SiteFault) answer = ⊥
+IsAnswerToFile va (Err vmcore.NoMemory) answer = ⊥
+
+-- what a read of a file answers, if there is the file
+abbrev pub file_answer : Option (List ℕ) → (va count : ℕ) → Result KernelBytes OpenFault
+file_answer None va count = Err vmcore.NoFile
+file_answer (Some f) va count = answer_of f va count
+
+-- the answer of `read`
+abbrev pub IsReadAnswer : Option Contents → (name : List ℕ) → (va count : ℕ) → Answer → Type 0
+IsReadAnswer told name va count answer =
+    (given : Result KernelBytes OpenFault) × Told told (λ c. given ≡ file_answer (file_of c name) va count) × IsAnswerToFile va given answer
+
+-- the answer to a command, over a site that tells this and has a partition of this size and block
+abbrev pub IsAnswer : Option Contents → (size block : ℕ) → Option Command → Answer → Type 0
+IsAnswer told size block None answer = answer ≡ Refused NotCommand
+IsAnswer told size block (Some command.Judge) answer = OnGood size block (IsJudgeAnswer told block) answer
+IsAnswer told size block (Some (command.Dump name)) answer = OnGood size block (IsDumpAnswer told size block name) answer
+IsAnswer told size block (Some (command.Read name va count)) answer = IsReadAnswer told name va count answer

@@ -5,7 +5,11 @@
 
 mod answer;
 mod command;
+mod dump_image;
+mod judge_partition;
+mod read_memory;
 mod refusal;
+mod reply;
 mod run;
 pub mod status;
 mod word;
@@ -15,6 +19,3 @@ pub use command::Command;
 pub use refusal::Refusal;
 pub use run::crashway;
 pub use word::Word;
-
-#[cfg(test)]
-mod tests;

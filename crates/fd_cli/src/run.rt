@@ -1,60 +1,99 @@
-ghost use Rattle.std.specs.Prelude.{◌≡◌, ◌≤◌, ◌⊎◌, Some, IfOk, OnErr};
+ghost use Rattle.std.specs.Prelude.{◌≡◌, ◌≤◌, ◌⊎◌, IfOk, IsTrue};
 ghost use Rattle.fd_site.specs.Fault.{Rose};
-ghost use Rattle.fd_cli.specs.Outcome.{command_of, EndsWith, IsAnswer};
-ghost use Rattle.fd_cli.specs.declared.answer.Answer.{Answer};
+ghost use Rattle.fd_site.specs.Name.{is_good_name};
+ghost use Rattle.fd_cli.specs.Command.{command_of};
+ghost use Rattle.fd_cli.specs.Dump.{EachCut, HasDumped, IfDump, IsFound, MayHaveAdded};
+ghost use Rattle.fd_cli.specs.Ending.{Ends};
+ghost use Rattle.fd_cli.specs.Outcome.{IsAnswer, IsJudgeAnswer, IsReadAnswer, OnGood};
+ghost use Rattle.fd_cli.specs.Reply.{OnNoMemory, OnSiteFault, Replies};
 
 use crate::answer::Answer;
 use crate::command::{Command, read_command};
+use crate::dump_image::dump_image;
+use crate::judge_partition::judge_partition;
+use crate::read_memory::read_memory;
 use crate::refusal::Refusal;
+use crate::reply::{Reply, Trouble};
 use crate::status;
 use crate::word::Word;
-use fd_judge::{Verdict, judge};
-use fd_part::good_partition;
 use fd_site::{Link, Ports, Sink, Site, SiteFault};
 use std::alloc::Global;
 
-// `savecore -C`.
-fn judge_partition<S: Site>(site: &mut S) -> Result<Answer, SiteFault>
-    ensures answer { IfOk result (IsAnswer (S.told site.old) (S.part_size site.old) (S.block_size site.old) (Some Command.Judge)) }
+// The reply to `savecore -C`.
+fn judge_reply<S: Site>(alloc: Global, site: &mut S) -> Result<Reply, Trouble>
+    ensures answer { IfOk result (Replies (OnGood (S.part_size site.old) (S.block_size site.old) (IsJudgeAnswer (S.told site.old) (S.block_size site.old)))) }
     ensures same { S.told site.new ≡ S.told site.old }
     ensures size { S.part_size site.new ≡ S.part_size site.old }
     ensures block { S.block_size site.new ≡ S.block_size site.old }
     ensures count { S.faults site.old ≤ S.faults site.new }
-    ensures cause { OnErr result (Rose (S.faults site.old) (S.faults site.new)) }
+    ensures cause { OnSiteFault result (Rose (S.faults site.old) (S.faults site.new)) }
 {
-    let size = site.size();
-    let block = site.block();
-    if !good_partition(size, block) {
-        return Ok(Answer::Refused(Refusal::Partition { size, block }));
+    match judge_partition(site) {
+        Ok(answer) => {
+            let reply = Reply::new(alloc, &answer)?;
+            Ok(reply)
+        }
+        Err(SiteFault) => Err(Trouble::SiteFault),
     }
-    Ok(match judge(site, false)? {
-        Verdict::Dump { header, .. } => Answer::Dump {
-            length: header.dumplength,
-        },
-        Verdict::Refused(why) => Answer::Refused(Refusal::Judged(why)),
-    })
 }
 
-// The answer to the words.
-fn work<S: Site>(words: &[Word], site: &mut S) -> Result<Answer, SiteFault>
-    ensures answer { IfOk result (IsAnswer (S.told site.old) (S.part_size site.old) (S.block_size site.old) (command_of words.now)) }
+// The reply to `read`.
+fn read_reply<S: Site>(
+    alloc: Global,
+    site: &mut S,
+    file: &Word,
+    address: u64,
+    count: u32,
+) -> Result<Reply, Trouble>
+    requires { IsTrue (is_good_name file.now) }
+    ensures answer { IfOk result (Replies (IsReadAnswer (S.told site.old) file.now address count)) }
     ensures same { S.told site.new ≡ S.told site.old }
     ensures size { S.part_size site.new ≡ S.part_size site.old }
     ensures block { S.block_size site.new ≡ S.block_size site.old }
     ensures count { S.faults site.old ≤ S.faults site.new }
-    ensures cause { OnErr result (Rose (S.faults site.old) (S.faults site.new)) }
+    ensures cause { OnSiteFault result (Rose (S.faults site.old) (S.faults site.new)) }
 {
-    match read_command(words) {
-        None => Ok(Answer::Refused(Refusal::NotCommand)),
-        Some(Command::Judge) => judge_partition(site),
+    let answer = read_memory(alloc, site, file, address, count)?;
+    let reply = Reply::new(alloc, &answer)?;
+    Ok(reply)
+}
+
+// The reply to the words.
+fn work<S: Site>(alloc: Global, words: &[Word], site: &mut S) -> Result<Reply, Trouble>
+    ensures answer { IfOk result (Replies (IsAnswer (S.told site.old) (S.part_size site.old) (S.block_size site.old) (command_of words.now))) }
+    ensures entries { MayHaveAdded (S.told site.old) (S.told site.new) (S.part_size site.old) (S.block_size site.old) (command_of words.now) }
+    ensures dumped { IfOk result (λ reply. reply.status ≡ 0 → IfDump (command_of words.now) (HasDumped (S.told site.old) (S.told site.new) (S.part_size site.old) (S.block_size site.old))) }
+    ensures memory { OnNoMemory result (S.told site.new ≡ S.told site.old) }
+    ensures size { S.part_size site.new ≡ S.part_size site.old }
+    ensures block { S.block_size site.new ≡ S.block_size site.old }
+    ensures count { S.faults site.old ≤ S.faults site.new }
+    ensures cause { OnSiteFault result (Rose (S.faults site.old) (S.faults site.new)) }
+{
+    match read_command(alloc, words)? {
+        None => {
+            let reply = Reply::new(alloc, &Answer::Refused(Refusal::NotCommand))?;
+            Ok(reply)
+        }
+        Some(Command::Judge) => judge_reply(alloc, site),
+        Some(Command::Dump { image }) => dump_image(alloc, site, &image),
+        Some(
+            Command::Read {
+                file,
+                address,
+                count,
+            },
+        ) => read_reply(alloc, site, &file, address, count),
     }
 }
 
 /// Does what the words ask for, prints its text and answers its status.
 ///
-/// `savecore -C` judges the partition and prints `dump LENGTH` (status 0) or the refusal (status 1). A partition that
-/// can't hold a dump is refused with 65, words that are no command with 64. Status 74 says that the site or the sink
-/// failed, status 71 that no memory was found; a part of the text may then have been printed.
+/// `savecore -C` judges the partition and prints `dump LENGTH`, or the refusal with status 1. `dump IMAGE` writes the
+/// dump of the machine image in that file and prints `dumped LENGTH`. `read FILE ADDRESS LENGTH` prints the bytes of
+/// a saved minidump at kernel addresses, 16 a line; an address that has no byte is refused with 1. A partition that
+/// can't hold a dump, a file that is no image or no minidump, and a partition without room are refused with 65, words
+/// that are no command with 64. Status 74 says that the site or the sink failed, and a part of the text may then have
+/// been printed; status 71 that no memory was found, before anything was written.
 pub fn crashway<S: Site, L: Link, P: Ports, O: Sink>(
     alloc: Global,
     words: &[Word],
@@ -63,25 +102,25 @@ pub fn crashway<S: Site, L: Link, P: Ports, O: Sink>(
     ports: &mut P,
     out: &mut O,
 ) -> u8
-    ensures ends { (a : Answer) × IsAnswer (S.told site.old) (S.part_size site.old) (S.block_size site.old) (command_of words.now) a
-        × EndsWith result (O.told out.old) (O.told out.new) a }
+    ensures ends { Ends (IsAnswer (S.told site.old) (S.part_size site.old) (S.block_size site.old) (command_of words.now)) result (O.told out.old) (O.told out.new) }
     ensures fault { result ≡ 74 → Rose (S.faults site.old) (S.faults site.new) ⊎ Rose (O.faults out.old) (O.faults out.new) }
-    ensures no_entry { S.told site.new ≡ S.told site.old }
+    ensures memory { result ≡ 71 → S.told site.new ≡ S.told site.old }
+    ensures entries { MayHaveAdded (S.told site.old) (S.told site.new) (S.part_size site.old) (S.block_size site.old) (command_of words.now) }
+    ensures dumped { result ≡ 0 → IfDump (command_of words.now) (HasDumped (S.told site.old) (S.told site.new) (S.part_size site.old) (S.block_size site.old)) }
+    ensures found { result ≡ 0 → IfDump (command_of words.now) (λ name. IsFound (S.told site.old) (S.told site.new) name (S.block_size site.old)) }
+    ensures crash { IfDump (command_of words.now) (λ name. EachCut (S.told site.old) (S.told site.new) name (S.block_size site.old)) }
     ensures size { S.part_size site.new ≡ S.part_size site.old }
     ensures block { S.block_size site.new ≡ S.block_size site.old }
     ensures link { (L.told link.new ≡ L.told link.old) × (L.faults link.new ≡ L.faults link.old) }
     ensures ports { (P.told ports.new ≡ P.told ports.old) × (P.faults ports.new ≡ P.faults ports.old) }
 {
-    let answer = match work(words, site) {
-        Ok(answer) => answer,
-        Err(SiteFault) => return status::FAULT,
+    let reply = match work(alloc, words, site) {
+        Ok(reply) => reply,
+        Err(Trouble::SiteFault) => return status::FAULT,
+        Err(Trouble::NoMemory) => return status::MEMORY,
     };
-    let text = match format!(in alloc; "{answer}\n") {
-        Ok(text) => text,
-        Err(_) => return status::MEMORY,
-    };
-    match out.put(text.as_bytes()) {
-        Ok(()) => answer.status(),
+    match out.put(reply.text.as_bytes()) {
+        Ok(()) => reply.status,
         Err(_) => status::FAULT,
     }
 }

@@ -1,8 +1,7 @@
 -- What a read of kernel addresses gives of a machine image: the bytes of its dumped pages.
-use Rattle.std.specs.Prelude.{◌≡◌, ◌⊎◌, ℕ, ◌+◌, ◌*◌, ◌%◌, ◌<◌, if◌then◌else◌, List, slice_index, Option, Some, None, Result, Ok, Err}
-use Rattle.fd_bytes.specs.declared.arch.Arch.TheVariants.{Riscv}
+use Rattle.std.specs.Prelude.{ℕ, ◌%◌, if◌then◌else◌, List, slice_index, Option, Some, None, Result, Ok, Err}
 use Rattle.fd_image.specs.Image.{MachineImage}
-use Rattle.fd_image.specs.Physical.{page_of, page_start, word_of}
+use Rattle.fd_image.specs.Physical.{page_of, page_start}
 use Rattle.fd_mini.specs.Kernel.{KernelBytes, kernel_bytes}
 use Rattle.fd_mini.specs.declared.address_fault.AddressFault.{AddressFault}
 use Rattle.fd_mini.specs.declared.address_fault.AddressFault.TheVariants.{NotDumped}
@@ -26,8 +25,3 @@ byte_of m va = by_physical m va (translated m va)
 -- what a read of kernel addresses gives
 abbrev pub kernel_read : MachineImage → (va count : ℕ) → KernelBytes
 kernel_read m va count = kernel_bytes (byte_of m) va count
-
--- a RISC-V image whose topmost page table is empty, so that its kernel window maps nothing
-pub record IsPlain (m : MachineImage) : Type 0 where
-  pub arch : m.arch ≡ Riscv
-  pub empty : (index : ℕ) → index < 512 → (word_of m (m.root + 8 * index) ≡ None) ⊎ (word_of m (m.root + 8 * index) ≡ Some 0)

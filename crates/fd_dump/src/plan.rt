@@ -1,7 +1,9 @@
 //! The minidump of a machine image, made once and given in pieces.
-ghost use Rattle.std.specs.Prelude.{◌≡◌, [], length, IfOk};
+ghost use Rattle.std.specs.Prelude.{◌≡◌, ◌%◌, ◌≤◌, ◌^◌, [], length, IfOk};
+ghost use Rattle.fd_image.specs.Image.{IsValid};
 ghost use Rattle.fd_dump.specs.Minidump.{minidump_of};
 ghost use Rattle.fd_dump.specs.Header.{header_of};
+ghost use Rattle.fd_kdh.specs.Header.{FitsFields};
 
 use crate::minidump::minidump;
 use fd_bytes::{Arch, Label};
@@ -51,7 +53,17 @@ impl Plan {
     /// the image's texts cut to their fields. The plan was prepared of the image.
     pub fn header(&self, image: &Image, block: u32) -> Header
         requires { self.now ≡ minidump_of image.now }
-        ensures { result ≡ header_of image.now block }
+        ensures value { result ≡ header_of image.now block }
+        ensures labels { FitsFields result }
+    {
+        self.fields(image, block)
+    }
+
+    // The header's fields.
+    fn fields(&self, image: &Image, block: u32) -> Header
+        requires { self.now ≡ minidump_of image.now }
+        ensures value { result ≡ header_of image.now block }
+        ensures valid { IsValid image.now }
     {
         let arch = image.arch();
         let texts = image.texts();
@@ -74,6 +86,8 @@ impl Plan {
     pub fn pieces<'a>(&'a self, image: &Image) -> SlicePieces<'a>
         requires { self.now ≡ minidump_of image.now }
         ensures to_come { ⟦<SlicePieces<'a> as Pieces>⟧.to_come result ≡ self.now }
+        ensures pages { length self.now % 4096 ≡ 0 }
+        ensures small { length self.now ≤ 2 ^ 62 }
         ensures current { ⟦<SlicePieces<'a> as Pieces>⟧.current result ≡ [] }
     {
         // The length is a multiple of 4096 because the image is valid.

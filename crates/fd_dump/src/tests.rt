@@ -78,9 +78,7 @@ fn amd64(alloc: Global) -> Result<Image, Fail> {
     valid(Parts {
         arch: Arch::Amd64,
         segs: Sequence::new(segs),
-        avail: Sequence::new(
-            vec![in alloc; (0x10_0000, 0x10_6000), (0x401f_f000, 0x4020_1000)]?,
-        ),
+        avail: Sequence::new(vec![in alloc; (0x10_0000, 0x10_6000), (0x401f_f000, 0x4020_1000)]?),
         wanted: Sequence::new(vec![in alloc; 0x10_0000]?),
         root: 0x10_0000,
         windows: Windows {
@@ -137,9 +135,7 @@ fn bytes_at(dump: &[u8], at: usize, count: usize) -> &[u8] {
 // The little-endian word at a place.
 fn word_in(dump: &[u8], at: usize) -> Option<u64> {
     match bytes_at(dump, at, 8) {
-        [a, b, c, d, e, f, g, h] => {
-            Some(u64::from_le_bytes([*a, *b, *c, *d, *e, *f, *g, *h]))
-        }
+        [a, b, c, d, e, f, g, h] => { Some(u64::from_le_bytes([*a, *b, *c, *d, *e, *f, *g, *h])) }
         _ => None,
     }
 }
@@ -151,7 +147,10 @@ fn sections_stand_in_order(rt: HostRuntime) -> Result<(), Fail> {
     assert_eq!(rt; dump.len(), 32768);
     let sizes: [u8; 16] = [2, 0, 0, 0, 12, 0, 0, 0, 0, 16, 0, 0, 0, 16, 0, 0];
     assert_eq!(rt; bytes_at(dump.as_slice(), 24, 16), sizes.as_slice());
-    assert_eq!(rt; bytes_at(dump.as_slice(), 4096, 13), b"panic: test\n\0".as_slice());
+    assert_eq!(rt;
+        bytes_at(dump.as_slice(), 4096, 13),
+        b"panic: test\n\0".as_slice()
+    );
     for (at, word) in [
         (8192, 0x8000_0000),
         (8200, 0x8000_6000),

@@ -4,11 +4,12 @@ use Rattle.fd_site.specs.Journal.{Entry, part_step, part_after}
 use Rattle.fd_site.specs.Contents.{Contents, Adds, part_of, with_entries}
 use Rattle.fd_site.specs.Cut.{part_cut}
 use Rattle.fd_site.proofs.Told.{with_entries-nil}
+use Rattle.fd_site.proofs.Written.{part_after-append}
 use Rattle.fd_kdh.specs.declared.header.Header.{Header}
 use Rattle.fd_part.specs.Partition.{is_good, need_of, IsClear}
 use Rattle.fd_part.specs.Dump.{IsStartOf, IsDumpJournal, IsStartedDump}
-use Rattle.fd_judge.specs.Crash.{IsHeaderFor, IsRefused, IsRefusedOrThis}
-use Rattle.fd_judge.proofs.CutLaw.{refused_or_this}
+use Rattle.fd_judge.specs.Crash.{IsHeaderFor, IsRefused, IsRefusedOrThis, IsThisDump}
+use Rattle.fd_judge.proofs.CutLaw.{refused_or_this, this_after}
 use Rattle.fd_judge.proofs.Verdicts.{refused}
 
 -- a cut behind some entries is a cut of the rest, over what they leave
@@ -59,6 +60,25 @@ pub each_cut_of_nothing : (old new : Option Contents) (was now : Contents) (bloc
     → (k : ℕ) (these : List Bool) → length was.journal ≤ k → IsRefused block (part_cut now.base_part now.journal k these)
 each_cut_of_nothing old new was now block told_was told_now same clear k these le =
     subst (IsRefused block) (sym (cut_of_told old new was now [] k these told_was told_now (same ∙ with_entries-nil old) le)) (refused (part_of was) (part_of was) block clear refl)
+
+-- the partition after a call, of what is told before and after it
+after_of_told : (old new : Option Contents) (was now : Contents) (added : List Entry) → old ≡ Some was → new ≡ Some now → new ≡ with_entries old added → part_of now ≡ part_after (part_of was) added
+unfolding base_told journal_told
+after_of_told old new was now added told_was told_now adds =
+    let is : Some now ≡ with_entries (Some was) added = sym told_now ∙ adds ∙ ap (λ o. with_entries o added) told_was in
+    let base : now.base_part ≡ was.base_part = ap base_told is in
+    let journal : now.journal ≡ was.journal ++ added = ap journal_told is in
+    (λ i. part_after (base i) (journal i)) ∙ part_after-append was.base_part was.journal added
+
+-- after a call that wrote a whole dump, judging finds it
+pub this_after_call : (old new : Option Contents) (was now : Contents) (body : List ℕ) (h : Header) (size block : ℕ) → old ≡ Some was → new ≡ Some now → length (part_of was) ≡ size
+    → Adds (IsDumpJournal body h size block) old new
+    → IsTrue (is_good size block) → need_of block (length body) ≤ size → IsHeaderFor body block h → IsThisDump body h block (part_of now)
+this_after_call old new was now body h size block told_was told_now sized adds good room header =
+    let good_was : IsTrue (is_good (length (part_of was)) block) = subst (λ n. IsTrue (is_good n block)) (sym sized) good in
+    let dump : IsDumpJournal body h (length (part_of was)) block adds.0 = subst (λ n. IsDumpJournal body h n block adds.0) (sym sized) adds.1 in
+    let this = this_after (part_of was) body h block adds.0 good_was (omega (arith, sized, room)) header dump in
+    subst (IsThisDump body h block) (sym (after_of_told old new was now adds.0 told_was told_now adds.2)) this
 
 -- a dump that was written whole was started
 start_of_all : (es : List Entry) → IsStartOf es es

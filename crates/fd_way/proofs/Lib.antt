@@ -1,8 +1,10 @@
 mod AvailBack
 mod BitmapBits
 mod DumpedPages
+pub mod Hex
 mod ImageWords
 mod Limits
+mod Lines
 mod Located
 mod Opening
 pub mod SameReads

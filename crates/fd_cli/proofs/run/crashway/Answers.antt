@@ -1,10 +1,22 @@
-use Rattle.std.proofs.Common.{inl, inr, refl}
-use Rattle.fd_site.proofs.Told.{grown-nil}
-use Rattle.fd_cli.proofs.Answered.{some_answer}
+use Rattle.fd_cli.proofs.Cuts.{each_cut_of_command, found_of_command}
 use Rattle.fd_cli.proofs.run.crashway.Goals as goal
 
-pub returns-in-Err-clause-ends : goal.returns-in-Err-clause-ends
-returns-in-Err-clause-ends g c = (_, some_answer _ _ _ _, inr (inr refl, (0, grown-nil _)))
+pub returns-in-Err-SiteFault-clause-crash : goal.returns-in-Err-SiteFault-clause-crash
+returns-in-Err-SiteFault-clause-crash g c =
+    each_cut_of_command _ _ _ _ _ (λ d told. g.met.S.Site.told_size _ d told) c.work.ensures.entries
 
-pub returns-in-Err-format-clause-ends : goal.returns-in-Err-format-clause-ends
-returns-in-Err-format-clause-ends g c = (_, some_answer _ _ _ _, inr (inl refl, (0, grown-nil _)))
+pub returns-in-Err-NoMemory-clause-crash : goal.returns-in-Err-NoMemory-clause-crash
+returns-in-Err-NoMemory-clause-crash g c =
+    each_cut_of_command _ _ _ _ _ (λ d told. g.met.S.Site.told_size _ d told) c.work.ensures.entries
+
+pub returns-in-Ok-put-clause-crash : goal.returns-in-Ok-put-clause-crash
+returns-in-Ok-put-clause-crash g c =
+    each_cut_of_command _ _ _ _ _ (λ d told. g.met.S.Site.told_size _ d told) c.work.ensures.entries
+
+pub returns-clause-crash : goal.returns-clause-crash
+returns-clause-crash g c =
+    each_cut_of_command _ _ _ _ _ (λ d told. g.met.S.Site.told_size _ d told) c.work.ensures.entries
+
+pub returns-in-Ok-put-clause-found : goal.returns-in-Ok-put-clause-found
+returns-in-Ok-put-clause-found g c done =
+    found_of_command _ _ _ _ _ (λ d told. g.met.S.Site.told_size _ d told) (c.in-Ok.ensures.dumped done)

@@ -1,0 +1,66 @@
+ghost use Rattle.std.specs.Prelude.{◌≡◌, ◌≤◌, ℕ, Err, IfOk, IsTrue};
+ghost use Rattle.fd_site.specs.Fault.{Rose};
+ghost use Rattle.fd_site.specs.Name.{is_good_name};
+ghost use Rattle.fd_cli.specs.Ending.{IsPrintable};
+ghost use Rattle.fd_cli.specs.Outcome.{IsAnswerToFile, IsReadAnswer};
+ghost use Rattle.fd_cli.specs.Reply.{OnSiteFault};
+ghost use Rattle.fd_vmcore.specs.declared.open.OpenFault.TheVariants.{SiteFault};
+
+use crate::answer::Answer;
+use crate::refusal::Refusal;
+use crate::reply::Trouble;
+use crate::word::Word;
+use fd_image::Sequence;
+use fd_kvm::{Kvm, ReadFault};
+use fd_site::Site;
+use fd_vmcore::OpenFault;
+use std::alloc::Global;
+
+// The answer to a vmcore that isn't opened.
+fn refuse_file(fault: OpenFault) -> Result<Answer, Trouble>
+    ensures answer { IfOk result (λ answer. (va : ℕ) → IsAnswerToFile va (Err fault) answer) }
+    ensures printable { IfOk result IsPrintable }
+    ensures cause { OnSiteFault result (fault ≡ SiteFault) }
+{
+    let refusal = match fault {
+        OpenFault::NoFile => Refusal::NoFile,
+        OpenFault::Short(need, have) => Refusal::Short { need, have },
+        OpenFault::Mini(fault) => Refusal::Mini(fault),
+        OpenFault::BadAvail(index) => Refusal::BadAvail(index),
+        OpenFault::SiteFault => return Err(Trouble::SiteFault),
+        OpenFault::NoMemory => return Err(Trouble::NoMemory),
+    };
+    Ok(Answer::Refused(refusal))
+}
+
+/// `read FILE ADDRESS LENGTH`: the bytes of a vmcore at kernel addresses.
+pub(crate) fn read_memory<S: Site>(
+    alloc: Global,
+    site: &mut S,
+    file: &Word,
+    address: u64,
+    count: u32,
+) -> Result<Answer, Trouble>
+    requires { IsTrue (is_good_name file.now) }
+    ensures answer { IfOk result (IsReadAnswer (S.told site.old) file.now address count) }
+    ensures printable { IfOk result IsPrintable }
+    ensures same { S.told site.new ≡ S.told site.old }
+    ensures size { S.part_size site.new ≡ S.part_size site.old }
+    ensures block { S.block_size site.new ≡ S.block_size site.old }
+    ensures count { S.faults site.old ≤ S.faults site.new }
+    ensures cause { OnSiteFault result (Rose (S.faults site.old) (S.faults site.new)) }
+{
+    let kvm = match Kvm::open(alloc, site, file.as_str()) {
+        Ok(kvm) => kvm,
+        Err(fault) => return refuse_file(fault),
+    };
+    let mut bytes = vec![in alloc; 0u8; count as usize]?;
+    match kvm.read(site, address, &mut bytes) {
+        Ok(()) => Ok(Answer::Read {
+            address,
+            bytes: Sequence::new(bytes),
+        }),
+        Err(ReadFault::Address(fault)) => Ok(Answer::Refused(Refusal::Address(fault))),
+        Err(ReadFault::SiteFault) => Err(Trouble::SiteFault),
+    }
+}
