@@ -4,6 +4,8 @@
 #![tactic(auto)]
 
 pub mod laws;
+#[cfg(test)]
+mod tests;
 mod verdict;
 
 pub use verdict::{Verdict, Why, judge};

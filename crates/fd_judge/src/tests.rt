@@ -1,0 +1,402 @@
+//! What judging answers over partitions in memory.
+
+ghost use Rattle.std.specs.Prelude.{◌≡◌, ◌≤◌, [], length, IfOk};
+ghost use Rattle.fd_kdh.specs.Header.{FitsFields};
+
+use super::{Verdict, Why, judge};
+use fd_bytes::{Arch, Label};
+use fd_fake::{MemSite, NoMemory};
+use fd_kdh::{CLEARED_MAGIC, Header, encode};
+use fd_part::{Wrote, good_partition, write_dump};
+use fd_site::{Failed, Site, SiteFault, SlicePieces};
+use std::alloc::Global;
+use std::process::Abort;
+use std::test::Fail;
+
+// The header of a dump of so many bytes of a riscv machine.
+fn header(block: u32, extent: u64) -> Header
+    ensures labels { FitsFields result }
+    ensures dumplength { result.dumplength ≡ extent }
+    ensures dumpextent { result.dumpextent ≡ extent }
+    ensures block { result.blocksize ≡ block }
+{
+    Header {
+        architecture: Label::cut(Arch::Riscv.name()),
+        architectureversion: Arch::Riscv.header_version(),
+        dumplength: extent,
+        dumptime: 1_700_000_000,
+        dumpkeysize: 0,
+        blocksize: block,
+        hostname: Label::cut(b"rv"),
+        versionstring: Label::cut_version(b"FreeBSD 14"),
+        panicstring: Label::cut(b"test"),
+        compression: 0,
+        dumpextent: extent,
+    }
+}
+
+// The header of a dump of 32768 bytes on a partition with blocks of 512.
+fn small() -> Header
+    ensures { FitsFields result }
+{
+    header(512, 32768)
+}
+
+// A zero partition.
+fn partition(alloc: Global, size: u64, block: u32) -> Result<MemSite, NoMemory>
+    ensures fresh { IfOk result (λ site. site.disk.journal ≡ []) }
+    ensures size { IfOk result (λ site. length site.disk.base_part ≡ size) }
+{
+    MemSite::new(alloc, size, block, Vec::new(alloc))
+}
+
+fn write(rt: &impl Abort, site: &mut MemSite, at: u64, bytes: &[u8]) -> Result<(), Failed> {
+    let count = bytes.len() as u64;
+    assert_eq!(rt; at % 512, 0);
+    assert_eq!(rt; count % 512, 0);
+    assert!(rt; 0 < count);
+    assert!(rt; count <= site.size());
+    assert!(rt; at <= site.size() - count);
+    site.write_part(at, bytes)
+}
+
+fn read(rt: &impl Abort, site: &mut MemSite, at: u64, out: &mut [u8]) -> Result<(), Failed> {
+    let count = out.len() as u64;
+    assert_eq!(rt; at % 512, 0);
+    assert_eq!(rt; count % 512, 0);
+    assert!(rt; 0 < count);
+    assert!(rt; count <= site.size());
+    assert!(rt; at <= site.size() - count);
+    site.read_part(at, out)
+}
+
+// The verdict without force.
+fn verdict(rt: &impl Abort, site: &mut MemSite) -> Result<Verdict, SiteFault> {
+    assert!(rt; good_partition(site.size(), site.block()));
+    judge(site, false)
+}
+
+// Why the partition is refused, or None where it is judged a dump.
+fn refusal(rt: &impl Abort, site: &mut MemSite) -> Result<Option<Why>, SiteFault> {
+    match verdict(rt, site)? {
+        Verdict::Refused(why) => Ok(Some(why)),
+        Verdict::Dump { .. } => Ok(None),
+    }
+}
+
+// Whether the partition has these bytes from this place on.
+fn has(rt: &impl Abort, site: &mut MemSite, place: u32, bytes: &[u8]) -> Result<bool, Failed> {
+    let mut sector = [0; 512];
+    for i in 0..bytes.len() / 512 {
+        let from = i * 512;
+        read(rt, site, u64::from(place) + from as u64, &mut sector)?;
+        if bytes[from..from + 512] != sector[..] {
+            return Ok(false);
+        }
+    }
+    Ok(true)
+}
+
+// Whether the partition is judged a dump with this header at this place, and has these bytes there.
+fn is_dump(
+    rt: &impl Abort,
+    site: &mut MemSite,
+    header: &Header,
+    place: u32,
+    body: &[u8],
+) -> Result<bool, Fail>
+    requires { FitsFields header.now }
+{
+    match verdict(rt, site)? {
+        Verdict::Refused(_) => Ok(false),
+        Verdict::Dump {
+            header: found,
+            at,
+            sector,
+        } => {
+            let told = at == u64::from(place) && found == *header && sector == encode(header);
+            Ok(told && has(rt, site, place, body)?)
+        }
+    }
+}
+
+// A block of 4096 bytes that begins with this sector.
+fn block_of(alloc: Global, sector: &[u8; 512], rest: u8) -> Result<Vec<u8>, Fail>
+    ensures { IfOk result (λ block. length block.items ≡ 4096) }
+{
+    let mut block = vec![in alloc; rest; 4096]?;
+    block[..512].copy_from_slice(sector);
+    Ok(block)
+}
+
+// Writes those of a block's eight sectors whose bits are set.
+fn tear(
+    rt: &impl Abort,
+    site: &mut MemSite,
+    at: u32,
+    block: &[u8],
+    sectors: u32,
+) -> Result<(), Failed>
+    requires { length block.now ≡ 4096 }
+{
+    for i in 0..8_u32 {
+        if sectors >> i & 1 == 1 {
+            let from = i as usize * 512;
+            write(
+                rt,
+                site,
+                u64::from(at) + from as u64,
+                &block[from..from + 512],
+            )?;
+        }
+    }
+    Ok(())
+}
+
+// A partition of 106496 bytes with blocks of 4096, on which an earlier dump was saved and cleared.
+fn cleared_partition(alloc: Global) -> Result<MemSite, Fail> {
+    let mut site = partition(alloc, 106496, 4096)?;
+    let mut earlier = header(4096, 32768);
+    earlier.dumptime = 1_600_000_000;
+    let mut block = block_of(alloc, &encode(&earlier), 9)?;
+    site.preset_part(65536, &block);
+    block[..20].copy_from_slice(&CLEARED_MAGIC);
+    site.preset_part(102400, &block);
+    Ok(site)
+}
+
+#[test]
+fn a_torn_leading_block_is_no_dump(rt: HostRuntime) -> Result<(), Fail> {
+    let alloc = rt.alloc();
+    let body = vec![in alloc; 7; 32768]?;
+    let block = block_of(alloc, &encode(&header(4096, 32768)), 0)?;
+    for sectors in 0..256 {
+        let mut site = cleared_partition(alloc)?;
+        write(&rt, &mut site, 69632, &body)?;
+        tear(&rt, &mut site, 65536, &block, sectors)?;
+        assert_eq!(rt; refusal(&rt, &mut site)?, Some(Why::Cleared), "{sectors}");
+    }
+    Ok(())
+}
+
+#[test]
+fn a_torn_trailing_block_is_a_dump_by_its_first_sector(rt: HostRuntime) -> Result<(), Fail> {
+    let alloc = rt.alloc();
+    let body = vec![in alloc; 7; 32768]?;
+    let header = header(4096, 32768);
+    let block = block_of(alloc, &encode(&header), 0)?;
+    for sectors in 0..256 {
+        let mut site = cleared_partition(alloc)?;
+        write(&rt, &mut site, 69632, &body)?;
+        write(&rt, &mut site, 65536, &block)?;
+        tear(&rt, &mut site, 102400, &block, sectors)?;
+        if sectors & 1 == 0 {
+            assert_eq!(rt; refusal(&rt, &mut site)?, Some(Why::Cleared), "{sectors}");
+        } else {
+            assert!(rt;
+                is_dump(&rt, &mut site, &header, 69632, &body)?,
+                "{sectors}"
+            );
+        }
+    }
+    Ok(())
+}
+
+// Why a partition of 131072 bytes with blocks of 512 is refused that has these sectors where a dump of 32768 bytes has
+// its headers, or None where it is judged a dump.
+fn refusal_of(
+    rt: &impl Abort,
+    alloc: Global,
+    trailing: &[u8; 512],
+    leading: &[u8; 512],
+) -> Result<Option<Why>, Fail> {
+    let mut site = partition(alloc, 131072, 512)?;
+    site.preset_part(130560, trailing);
+    site.preset_part(97280, leading);
+    Ok(refusal(rt, &mut site)?)
+}
+
+// Asserts what a header is refused for that differs from the others from this place on: by a rule on its fields,
+// where it breaks one, or by the place, where it stands at one end of the dump alone.
+fn check_changed(
+    rt: &impl Abort,
+    alloc: Global,
+    changed: &[u8; 512],
+    rule: Option<Why>,
+    place: u16,
+) -> Result<(), Fail> {
+    let old = encode(&small());
+    let differs = Some(Why::Disagree(place));
+    let by_rule = if rule.is_some() { rule } else { differs };
+    assert_eq!(rt;
+        refusal_of(rt, alloc, changed, &old)?,
+        by_rule,
+        "trailing, from {place} on"
+    );
+    assert_eq!(rt;
+        refusal_of(rt, alloc, &old, changed)?,
+        differs,
+        "leading, from {place} on"
+    );
+    assert_eq!(rt;
+        refusal_of(rt, alloc, changed, changed)?,
+        rule,
+        "both, from {place} on"
+    );
+    Ok(())
+}
+
+// The header of a dump of so many bytes, with all else as in the small one.
+fn sized(extent: u64) -> [u8; 512] {
+    encode(&header(512, extent))
+}
+
+#[test]
+fn changed_fields_have_their_reasons(rt: HostRuntime) -> Result<(), Fail> {
+    let alloc = rt.alloc();
+    for (changed, rule, place) in [
+        (
+            encode(&Header {
+                architecture: Label::cut(b"riscv65"),
+                ..small()
+            }),
+            Some(Why::UnknownArch),
+            26,
+        ),
+        (
+            encode(&Header {
+                architecture: Label::cut(b"aarch64"),
+                ..small()
+            }),
+            None,
+            20,
+        ),
+        (
+            encode(&Header {
+                architectureversion: 2,
+                ..small()
+            }),
+            Some(Why::UnknownArch),
+            39,
+        ),
+        (
+            encode(&Header {
+                dumplength: 32767,
+                ..small()
+            }),
+            Some(Why::LengthDiffers(32767, 32768)),
+            46,
+        ),
+        (
+            encode(&Header {
+                dumptime: 1_700_000_001,
+                ..small()
+            }),
+            None,
+            55,
+        ),
+        (
+            encode(&Header {
+                dumpkeysize: 256,
+                ..small()
+            }),
+            Some(Why::Encrypted(256)),
+            58,
+        ),
+        (
+            encode(&Header {
+                blocksize: 1024,
+                ..small()
+            }),
+            Some(Why::BadBlock(1024)),
+            62,
+        ),
+        (
+            encode(&Header {
+                hostname: Label::cut(b"rw"),
+                ..small()
+            }),
+            None,
+            65,
+        ),
+        (
+            encode(&Header {
+                versionstring: Label::cut_version(b"FreeBSD 15"),
+                ..small()
+            }),
+            None,
+            137,
+        ),
+        (
+            encode(&Header {
+                panicstring: Label::cut(b"text"),
+                ..small()
+            }),
+            None,
+            322,
+        ),
+        (
+            encode(&Header {
+                compression: 1,
+                ..small()
+            }),
+            Some(Why::Compressed(1)),
+            495,
+        ),
+        (
+            encode(&Header {
+                dumpextent: 36864,
+                ..small()
+            }),
+            Some(Why::LengthDiffers(32768, 36864)),
+            502,
+        ),
+        (sized(0), Some(Why::BadExtent(0)), 46),
+        (sized(32512), Some(Why::BadExtent(32512)), 46),
+        (sized(65536), Some(Why::BadExtent(65536)), 45),
+    ] {
+        check_changed(&rt, alloc, &changed, rule, place)?;
+    }
+    Ok(())
+}
+
+// The sector with these bytes in the place of its first ones.
+fn beginning(sector: &[u8; 512], bytes: &[u8]) -> [u8; 512]
+    requires { length bytes.now ≤ 512 }
+{
+    let mut changed = *sector;
+    changed[..bytes.len()].copy_from_slice(bytes);
+    changed
+}
+
+#[test]
+fn a_sector_torn_between_bytes_revives_a_cleared_dump(rt: HostRuntime) -> Result<(), Fail> {
+    let alloc = rt.alloc();
+    let live = encode(&small());
+    let cleared = beginning(&live, &CLEARED_MAGIC);
+    let torn = beginning(&cleared, b"FreeBSD");
+    assert_eq!(rt;
+        refusal_of(&rt, alloc, &cleared, &live)?,
+        Some(Why::Cleared)
+    );
+    assert_eq!(rt; refusal_of(&rt, alloc, &torn, &live)?, None);
+    assert_eq!(rt; live[508..], *b"\x0d\x4f\xe5\x38".as_slice());
+    Ok(())
+}
+
+#[test]
+fn a_dump_of_56_mb_is_found_on_64_mib(rt: HostRuntime) -> Result<(), Fail> {
+    let alloc = rt.alloc();
+    let body = vec![in alloc; 7; 56434688]?;
+    let header = header(512, 56434688);
+    let mut site = partition(alloc, 67108864, 512)?;
+    assert!(rt; good_partition(site.size(), site.block()));
+    assert_eq!(rt; site.block(), 512);
+    let mut pieces = SlicePieces::new(&body);
+    assert_eq!(rt;
+        write_dump(&mut site, &mut pieces, &header, None),
+        Ok(Wrote::Whole)
+    );
+    assert!(rt; is_dump(&rt, &mut site, &header, 10673664, &body)?);
+    Ok(())
+}
