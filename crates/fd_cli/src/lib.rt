@@ -19,3 +19,12 @@ pub use command::Command;
 pub use refusal::Refusal;
 pub use run::crashway;
 pub use word::Word;
+
+#[cfg(test)]
+mod dump_tests;
+#[cfg(test)]
+mod image_files;
+#[cfg(test)]
+mod read_tests;
+#[cfg(test)]
+mod tests;
