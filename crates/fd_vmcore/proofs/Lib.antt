@@ -1,0 +1,3 @@
+mod Openings
+pub mod Opened
+mod Pairs
