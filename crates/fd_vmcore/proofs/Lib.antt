@@ -1,3 +1,4 @@
+pub mod Below
 mod Openings
 pub mod Opened
 mod Pairs

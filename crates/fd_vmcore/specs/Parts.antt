@@ -1,5 +1,6 @@
 -- What the parts of opening need and answer, by the file's bytes. No public clause cites these.
-use Rattle.std.specs.Prelude.{◌≡◌, ◌≤◌, ℕ, List, length, Option, Some, None, IsSomeAnd, option_map, Result, Ok, Err}
+use Rattle.std.specs.Prelude.{◌≡◌, ◌^◌, ◌<◌, ◌≤◌, ℕ, List, length, Option, Some, None, IsSomeAnd, option_map, Result, Ok, Err}
+use Rattle.std.specs.List.{All}
 use Rattle.fd_mini.specs.declared.header.MiniHeader.{MiniHeader}
 use Rattle.fd_vmcore.specs.Ranges.{pages_in}
 use Rattle.fd_vmcore.specs.Sections.{bad_range}
@@ -28,3 +29,7 @@ AreRanges f h (Err (BadAvail index)) = bad_range f h ≡ Some index
 AreRanges f h (Err SiteFault) = Unit {0}
 AreRanges f h (Err NoMemory) = Unit {0}
 AreRanges f h (Err fault) = ⊥
+
+-- the pairs end below 2^64
+abbrev pub EndBelow : List (ℕ × ℕ) → Type 0
+EndBelow pairs = All (λ pair. pair.1 < 2 ^ 64) pairs

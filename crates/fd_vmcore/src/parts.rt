@@ -1,11 +1,12 @@
 //! The sections that opening reads.
-ghost use Rattle.std.specs.Prelude.{◌≡◌, ℕ, ◌+◌, ◌*◌, ◌≤◌, ◌^◌, List, length, Some, slice_range, IfOk, IsTrue};
+ghost use Rattle.std.specs.Prelude.{◌≡◌, ℕ, ◌+◌, ◌*◌, ◌<◌, ◌≤◌, ◌^◌, List, length, Some, slice_range, IfOk, IsTrue};
 ghost use Rattle.fd_site.specs.Contents.{Told, file_of};
 ghost use Rattle.fd_site.specs.Fault.{Rose};
 ghost use Rattle.fd_site.specs.Name.{is_good_name};
 ghost use Rattle.fd_mini.specs.Places.{places_of};
 ghost use Rattle.fd_vmcore.specs.Cause.{OnSiteFault};
-ghost use Rattle.fd_vmcore.specs.Parts.{AreRanges, HasRoom, IsReadAs};
+ghost use Rattle.fd_vmcore.specs.Kept.{AreBelow};
+ghost use Rattle.fd_vmcore.specs.Parts.{AreRanges, EndBelow, HasRoom, IsReadAs};
 ghost use Rattle.fd_vmcore.specs.Ranges.{pair_at, pairs_in};
 ghost use Rattle.fd_vmcore.specs.Sections.{bits_in};
 
@@ -77,6 +78,7 @@ pub(crate) fn read_avail<S: Site>(
     requires inside { Told (S.told site.old) (λ c. HasRoom (file_of c name.now) (places_of header.now).pages) }
     requires limit { header.now.bitmapsize ≤ 2 ^ 26 }
     ensures ranges { Told (S.told site.old) (λ c. (f : List ℕ) → file_of c name.now ≡ Some f → AreRanges f header.now result) }
+    ensures below { IfOk result (λ pages. AreBelow pages) }
     ensures same { S.told site.new ≡ S.told site.old }
     ensures size { S.part_size site.new ≡ S.part_size site.old }
     ensures block { S.block_size site.new ≡ S.block_size site.old }
@@ -103,7 +105,8 @@ pub(crate) fn read_avail<S: Site>(
 
 // The pairs of a section, up to the first whose end is 0.
 fn pairs_in(alloc: Global, section: &[u8]) -> Result<Vec<(u64, u64)>, AllocError>
-    ensures { IfOk result (λ pairs. pairs.items ≡ pairs_in section.now (length section.now)) }
+    ensures pairs { IfOk result (λ pairs. pairs.items ≡ pairs_in section.now (length section.now)) }
+    ensures below { IfOk result (λ pairs. EndBelow pairs.items) }
 {
     let mut pairs = Vec::new(alloc);
     for index in 0..section.len() / 16 {
@@ -119,7 +122,8 @@ fn pairs_in(alloc: Global, section: &[u8]) -> Result<Vec<(u64, u64)>, AllocError
 // The pair of this index.
 fn pair_at(section: &[u8], index: usize) -> (u64, u64)
     requires { 16 * index + 16 ≤ length section.now }
-    ensures { result ≡ pair_at section.now index }
+    ensures pair { result ≡ pair_at section.now index }
+    ensures below { result.1 < 2 ^ 64 }
 {
     (
         get_u64_le(section, 16 * index),

@@ -1,5 +1,5 @@
 //! An open vmcore.
-ghost use Rattle.std.specs.Prelude.{◌≡◌, ℕ, ◌+◌, ◌≤◌, ◌<◌, ◌^◌, ◌*◌, IsTrue, List, Some, length};
+ghost use Rattle.std.specs.Prelude.{◌≡◌, ℕ, ◌+◌, ◌≤◌, ◌<◌, ◌^◌, ◌*◌, IsTrue, List, Some, None, length};
 ghost use Rattle.fd_site.specs.Contents.{Told, file_of};
 ghost use Rattle.fd_site.specs.Fault.{Rose};
 ghost use Rattle.fd_site.specs.Name.{is_good_name};
@@ -34,7 +34,7 @@ impl Model for Core {
 
     ghost view = { λ core. record { header = core.header; pages = core.avail; bits = core.map } };
 
-    ghost invariant = { λ core. IsKept core.header core.map };
+    ghost invariant = { λ core. IsKept core.header core.avail core.map };
 }
 
 impl Core {
@@ -69,9 +69,11 @@ impl Core {
         places_of(&self.header)
     }
 
-    /// Where the page of a physical address stands in the file, or None where it isn't dumped.
+    /// Where the page of a physical address stands in the file, or None where it isn't dumped. No page of an address of
+    /// more than 64 bits is.
     pub fn find(&self, pa: u64) -> Option<u64>
-        ensures { result ≡ page_offset self.now pa }
+        ensures place { result ≡ page_offset self.now pa }
+        ensures top { (pa : ℕ) → 2 ^ 64 ≤ pa → page_offset self.now pa ≡ None }
     {
         let bit = self.avail.bit_of(pa)?;
         if !self.map.has(bit) {
