@@ -1,5 +1,5 @@
 //! An open vmcore.
-ghost use Rattle.std.specs.Prelude.{◌≡◌, ℕ, ◌+◌, ◌≤◌, ◌<◌, ◌^◌, ◌*◌, IsTrue, List, Some, None, length};
+ghost use Rattle.std.specs.Prelude.{◌≡◌, ℕ, ◌+◌, ◌≤◌, ◌<◌, ◌^◌, ◌*◌, IfSome, IsTrue, List, Some, length};
 ghost use Rattle.fd_site.specs.Contents.{Told, file_of};
 ghost use Rattle.fd_site.specs.Fault.{Rose};
 ghost use Rattle.fd_site.specs.Name.{is_good_name};
@@ -7,7 +7,7 @@ ghost use Rattle.fd_mini.specs.Places.{places_of};
 ghost use Rattle.fd_mini.specs.Read.{header_in};
 ghost use Rattle.fd_vmcore.specs.Cause.{OnSiteFault};
 ghost use Rattle.fd_vmcore.specs.Parts.{HasLength};
-ghost use Rattle.fd_vmcore.specs.Sections.{IsOpening, long_enough, bad_range, by_ranges, opened, opened_file, page_offset, pages_end};
+ghost use Rattle.fd_vmcore.specs.Sections.{IsOpening, long_enough, bad_range, by_ranges, opened, offset_of_bit, opened_file, page_offset, pages_end};
 
 use crate::open::OpenFault;
 use crate::parts::{read_avail, read_bitmap};
@@ -64,18 +64,37 @@ impl Core {
 
     /// Where the sections begin in the file.
     pub fn places(&self) -> Places
-        ensures { result ≡ places_of self.now.header }
+        ensures places { result ≡ places_of self.now.header }
+        ensures limit { result.pages < 2 ^ 36 }
     {
         places_of(&self.header)
     }
 
-    /// Where the page of a physical address stands in the file, or None where it isn't dumped. No page of an address of
-    /// more than 64 bits is.
+    /// Where the page of a physical address stands in the file, or None where it isn't dumped.
     pub fn find(&self, pa: u64) -> Option<u64>
         ensures place { result ≡ page_offset self.now pa }
-        ensures top { (pa : ℕ) → 2 ^ 64 ≤ pa → page_offset self.now pa ≡ None }
+        ensures limit { IfSome result (λ place. place < 2 ^ 62) }
     {
-        let bit = self.avail.bit_of(pa)?;
+        self.place_of(self.avail.bit_of(pa)?)
+    }
+
+    /// The same for an address that may have more than 64 bits, as one in a direct map may. No page has such an address.
+    pub fn find_wide(&self, pa: u128) -> Option<u64>
+        ensures place { result ≡ page_offset self.now pa }
+        ensures limit { IfSome result (λ place. place < 2 ^ 62) }
+    {
+        let avail = &self.avail;
+        match u64::try_from(pa) {
+            Ok(pa) => self.place_of(avail.bit_of(pa)?),
+            Err(_) => None,
+        }
+    }
+
+    // Where the page of this bit stands in the file, if the bit is set.
+    fn place_of(&self, bit: u64) -> Option<u64>
+        ensures place { result ≡ offset_of_bit self.now bit }
+        ensures limit { IfSome result (λ place. place < 2 ^ 62) }
+    {
         if !self.map.has(bit) {
             return None;
         }
