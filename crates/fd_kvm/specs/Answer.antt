@@ -1,5 +1,5 @@
 -- What a read of kernel addresses gives of a vmcore.
-use Rattle.std.specs.Prelude.{◌≡◌, ℕ, ◌+◌, ◌%◌, List, slice_index, Option, Some, None, Result, Ok, Err}
+use Rattle.std.specs.Prelude.{ℕ, ◌+◌, ◌%◌, List, slice_index, Option, Some, None, Result, Ok, Err}
 use Rattle.fd_mini.specs.Kernel.{KernelBytes, kernel_bytes}
 use Rattle.fd_mini.specs.declared.address_fault.AddressFault.{AddressFault}
 use Rattle.fd_mini.specs.declared.address_fault.AddressFault.TheVariants.{NotDumped}

@@ -1,3 +1,5 @@
 pub mod Answer
+pub mod Cause
 pub mod Place
 pub mod Reader
+pub mod Runs

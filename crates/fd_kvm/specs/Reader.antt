@@ -1,8 +1,9 @@
 -- A reader of a vmcore, and what its reads answer.
-use Rattle.std.specs.Prelude.{◌≡◌, ℕ, List, ◌++◌, length, drop, Option, Some, None, IsSomeAnd, Result, Ok, Err}
+use Rattle.std.specs.Prelude.{◌≡◌, ℕ, List, ◌++◌, length, drop, Some, None, IsSomeAnd, Result, Ok, Err}
 use Rattle.fd_site.specs.Contents.{Contents, file_of}
 use Rattle.fd_mini.specs.Kernel.{KernelBytes}
 use Rattle.fd_vmcore.specs.Sections.{Sections, opened}
+use Rattle.fd_vmcore.specs.declared.open.OpenFault.{OpenFault}
 use Rattle.fd_kvm.specs.declared.fault.ReadFault.{ReadFault}
 use Rattle.fd_kvm.specs.declared.fault.ReadFault.TheVariants.{Address, SiteFault}
 
@@ -14,6 +15,11 @@ pub record Reader : Type 0 where
 -- a reader stands for the file of its name: opening that gives its sections
 abbrev pub StandsFor : Reader → Contents → Type 0
 StandsFor reader c = IsSomeAnd (file_of c reader.name) (λ f. opened f ≡ Ok reader.sections)
+
+-- the sections of an opened reader
+abbrev pub sections_of : Result Reader OpenFault → Result Sections OpenFault
+sections_of (Ok reader) = Ok reader.sections
+sections_of (Err fault) = Err fault
 
 -- What a read may answer, and what its buffer then holds, by what the addresses give: all the bytes, or those before
 -- the first address that has none, and the rest of the buffer as it was. A fault of the site says nothing.

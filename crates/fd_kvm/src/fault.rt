@@ -1,5 +1,8 @@
 //! Why kernel memory wasn't read.
+ghost use Rattle.std.specs.Prelude.{◌≡◌};
+
 use fd_mini::AddressFault;
+use fd_site::Failed;
 
 /// Why kernel memory wasn't read.
 #[derive(Clone, Copy, PartialEq, Eq, Debug)]
@@ -8,4 +11,14 @@ pub enum ReadFault {
     Address(AddressFault),
     /// The site failed, and its count of faults rose.
     SiteFault,
+}
+
+impl From<Failed> for ReadFault {
+    ghost use Rattle.fd_kvm.specs.declared.fault.ReadFault.TheVariants.{SiteFault};
+
+    ghost from_gives = { λ _ fault. fault ≡ SiteFault };
+
+    fn from(_: Failed) -> ReadFault {
+        ReadFault::SiteFault
+    }
 }

@@ -3,5 +3,10 @@
 #![tactic(auto)]
 
 mod fault;
+mod read;
+mod reader;
+mod run;
+mod span;
 
 pub use fault::ReadFault;
+pub use reader::Kvm;

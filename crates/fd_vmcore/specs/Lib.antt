@@ -1,2 +1,5 @@
+pub mod Cause
+pub mod Kept
+pub mod Parts
 pub mod Ranges
 pub mod Sections

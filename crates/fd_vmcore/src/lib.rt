@@ -3,5 +3,8 @@
 #![tactic(auto)]
 
 mod open;
+mod parts;
+mod sections;
 
 pub use open::OpenFault;
+pub use sections::Core;

@@ -1,5 +1,10 @@
 //! Why a vmcore isn't opened.
+ghost use Rattle.std.specs.Prelude.{◌≡◌};
+
+use fd_bitmap::NoMemory;
 use fd_mini::MiniFault;
+use fd_site::Failed;
+use std::alloc::AllocError;
 
 /// Why a vmcore isn't opened, in the order of the tests. Sizes are in bytes.
 #[derive(Clone, Copy, PartialEq, Eq, Debug)]
@@ -17,4 +22,34 @@ pub enum OpenFault {
     SiteFault,
     /// No memory was left.
     NoMemory,
+}
+
+impl From<Failed> for OpenFault {
+    ghost use Rattle.fd_vmcore.specs.declared.open.OpenFault.TheVariants.{SiteFault};
+
+    ghost from_gives = { λ _ fault. fault ≡ SiteFault };
+
+    fn from(_: Failed) -> OpenFault {
+        OpenFault::SiteFault
+    }
+}
+
+impl From<AllocError> for OpenFault {
+    ghost use Rattle.fd_vmcore.specs.declared.open.OpenFault.TheVariants.{NoMemory};
+
+    ghost from_gives = { λ _ fault. fault ≡ NoMemory };
+
+    fn from(_: AllocError) -> OpenFault {
+        OpenFault::NoMemory
+    }
+}
+
+impl From<NoMemory> for OpenFault {
+    ghost use Rattle.fd_vmcore.specs.declared.open.OpenFault.TheVariants.{NoMemory};
+
+    ghost from_gives = { λ _ fault. fault ≡ NoMemory };
+
+    fn from(_: NoMemory) -> OpenFault {
+        OpenFault::NoMemory
+    }
 }

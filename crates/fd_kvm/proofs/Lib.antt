@@ -1,0 +1,6 @@
+mod Choice
+mod Fronts
+mod Located
+mod Placed
+mod Quotients
+mod Standing

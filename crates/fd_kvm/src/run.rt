@@ -1,0 +1,88 @@
+//! Kernel addresses whose bytes follow one another in the file.
+ghost use Rattle.std.specs.Prelude.{◌≡◌, ℕ, ◌+◌, ◌<◌, ◌≤◌, List, Some, IfOk, length};
+ghost use Rattle.fd_site.specs.Contents.{Told, file_of};
+ghost use Rattle.fd_site.specs.Fault.{Rose};
+ghost use Rattle.fd_vmcore.specs.Sections.{opened};
+ghost use Rattle.fd_kvm.specs.Answer.{byte_in};
+ghost use Rattle.fd_kvm.specs.Cause.{OnSiteFault};
+ghost use Rattle.fd_kvm.specs.Place.{placed};
+ghost use Rattle.fd_kvm.specs.Reader.{StandsFor};
+ghost use Rattle.fd_kvm.specs.Runs.{IsLocated, IsOfAddress, IsSpan, IsStep};
+
+use crate::fault::ReadFault;
+use crate::reader::Kvm;
+use crate::span::Span;
+use fd_mini::AddressFault;
+use fd_site::Site;
+
+/// A place in the file, and how many bytes from there on belong to addresses that follow one another.
+#[derive(Clone, Copy, Debug, PartialEq, Eq)]
+pub(crate) struct Run {
+    pub(crate) place: u64,
+    pub(crate) len: u64,
+}
+
+impl Kvm {
+    // Reads the bytes at kernel addresses from `va` on, as many as follow one another in the file and as `out` takes.
+    // Answers how many they are.
+    pub(crate) fn read_run<S: Site>(
+        &self,
+        site: &mut S,
+        va: u64,
+        out: &mut [u8],
+    ) -> Result<usize, ReadFault>
+        requires stands { Told (S.told site.old) (StandsFor self.now) }
+        requires some { 0 < length out.old }
+        ensures step { Told (S.told site.old) (λ c. (f : List ℕ) → file_of c self.now.name ≡ Some f → IsStep (byte_in f self.now.sections) va out.old out.new result) }
+        ensures some { IfOk result (λ count. 0 < count) }
+        ensures inside { IfOk result (λ count. count ≤ length out.old) }
+        ensures fault { IsOfAddress result }
+        ensures same { S.told site.new ≡ S.told site.old }
+        ensures size { S.part_size site.new ≡ S.part_size site.old }
+        ensures block { S.block_size site.new ≡ S.block_size site.old }
+        ensures count { S.faults site.old ≤ S.faults site.new }
+        ensures cause { OnSiteFault result (Rose (S.faults site.old) (S.faults site.new)) }
+    {
+        let run = self.locate(site, va)?;
+        let count = run.len.min(out.len() as u64) as usize;
+        site.read_file(self.name(), run.place, &mut out[..count])?;
+        Ok(count)
+    }
+
+    // Where the bytes at kernel addresses from `va` on stand in the file.
+    fn locate<S: Site>(&self, site: &mut S, va: u64) -> Result<Run, ReadFault>
+        requires stands { Told (S.told site.old) (StandsFor self.now) }
+        ensures located { Told (S.told site.old) (λ c. (f : List ℕ) → file_of c self.now.name ≡ Some f → IsLocated f (byte_in f self.now.sections) va result) }
+        ensures some { IfOk result (λ run. 0 < run.len) }
+        ensures fault { IsOfAddress result }
+        ensures same { S.told site.new ≡ S.told site.old }
+        ensures size { S.part_size site.new ≡ S.part_size site.old }
+        ensures block { S.block_size site.new ≡ S.block_size site.old }
+        ensures count { S.faults site.old ≤ S.faults site.new }
+        ensures cause { OnSiteFault result (Rose (S.faults site.old) (S.faults site.new)) }
+    {
+        let span = self.span_at(site, va)?;
+        self.run_of(va, span)
+    }
+
+    // Where the bytes at physical addresses that `va` and those after it stand for stand in the file.
+    fn run_of(&self, va: u64, span: Span) -> Result<Run, ReadFault>
+        requires { 0 < span.len }
+        ensures run { (f : List ℕ) → opened f ≡ Ok self.now.sections → IsSpan (placed f self.now.sections) va (Ok span)
+            → IsLocated f (byte_in f self.now.sections) va result }
+        ensures some { IfOk result (λ run. 0 < run.len) }
+        ensures fault { IsOfAddress result }
+        ensures no_fault { OnSiteFault result ⊥ }
+    {
+        match self.find(span.pa) {
+            Some(page) => {
+                let offset = (span.pa % 4096) as u64;
+                Ok(Run {
+                    place: page + offset,
+                    len: span.len.min(4096 - offset),
+                })
+            }
+            None => Err(ReadFault::Address(AddressFault::NotDumped(va))),
+        }
+    }
+}

@@ -1,0 +1,4 @@
+pub mod Below
+mod Openings
+pub mod Opened
+mod Pairs
