@@ -1,5 +1,5 @@
 -- The file of a machine image. The format is this project's own; all numbers are little-endian.
-use Rattle.std.specs.Prelude.{ℕ, List, [], ◌∷◌, ◌++◌, length, map, codes}
+use Rattle.std.specs.Prelude.{ℕ, List, ◌++◌, length, map, codes}
 use Rattle.std.specs.Int.{w32, w64, to_le_bytes}
 use Rattle.std.specs.List.{concat, flat_map}
 use Rattle.fd_bytes.specs.declared.arch.Arch.{Arch}
