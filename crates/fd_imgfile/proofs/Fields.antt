@@ -20,7 +20,7 @@ u32_is f at n within bytes is =
     sym (le_bytes_4 (slice_range f at (at + 4)) n four (λ i. byte_of_slice f at (at + 4) i bytes) (sym is))
 
 -- each check is kept
-abbrev AllKept : List (Bool × ℕ) → Type 0
+abbrev pub AllKept : List (Bool × ℕ) → Type 0
 AllKept [] = Unit {0}
 AllKept (check ∷ checks) = (check.0 ≡ true) × AllKept checks
 

@@ -4,9 +4,9 @@ use Rattle.std.specs.List.{concat, flat_map}
 use Rattle.fd_image.specs.Image.{AreBytes, MachineImage, IsTyped}
 use Rattle.fd_image.specs.declared.parts.Seg.{Seg}
 use Rattle.fd_image.specs.declared.parts.Texts.{Texts}
-use Rattle.fd_imgfile.specs.Front.{AreNumbers, AreTexts, IsFront, HasCounts, HasLengths, bytes_of, fields_of, tables_length, texts_length}
+use Rattle.fd_imgfile.specs.Front.{IsWithinLimits, AreNumbers, AreTexts, IsFront, HasCounts, HasLengths, bytes_of, fields_of, tables_length, texts_length}
 use Rattle.fd_imgfile.specs.Reading.{SpellsImage, fault_place}
-use Rattle.fd_imgfile.specs.Spelling.{avail_bytes, front_of, magic, seg_bytes, spelling_of, tables_of, texts_of, u32, u64, windows_of, number_of}
+use Rattle.fd_imgfile.specs.Spelling.{FitsFields, avail_bytes, front_of, magic, seg_bytes, spelling_of, tables_of, texts_of, u32, u64, windows_of, number_of}
 use Rattle.fd_imgfile.specs.declared.front.Front.{Front}
 use Rattle.fd_imgfile.specs.declared.tables.Tables.{Tables}
 use Rattle.fd_imgfile.proofs.Slices.{slice-all, slice-join}
@@ -73,12 +73,22 @@ image_typed h t texts segs numbers typed_segs avail wanted typed_texts lengths =
   time = omega (arith, numbers.time, lengths.time);
 }
 
-pub image_read : (file : Option (List ℕ)) (h : Front) (t : Tables) (texts : Texts) (segs : List Seg) (len : ℕ) → IsTyped (image_of h t texts segs) → 112 + tables_length h + texts_length h ≤ len → length segs ≡ h.segs → HasCounts t h → HasLengths texts h → flat_map seg_bytes segs ≡ flat_map avail_bytes t.segs.items → IsSomeAnd file (λ f. length f ≡ len) → IfSome file (λ f. IsFront f h) → IfSome file (λ f. fault_place f ≡ None) → IfSome file (λ f. bytes_of t ≡ slice_range f 112 (112 + tables_length h)) → IfSome file (λ f. texts_of texts ≡ slice_range f (112 + tables_length h) (112 + tables_length h + texts_length h)) → IfSome file (λ f. concat (map (λ seg. seg.bytes) segs) ≡ slice_range f (112 + tables_length h + texts_length h) len) → IsSomeAnd file (λ f. SpellsImage f (image_of h t texts segs))
-image_read None h t texts segs len typed within count counts lengths table has front kept tables texts_are memory = has
-image_read (Some f) h t texts segs len typed within count counts lengths table has front kept tables texts_are memory =
+-- the image of counts and lengths within their limits
+pub image_fits : (h : Front) (t : Tables) (texts : Texts) (segs : List Seg) → IsWithinLimits h → length segs ≡ h.segs → HasCounts t h → HasLengths texts h → All (λ seg. length seg.bytes < 2 ^ 64) segs → FitsFields (image_of h t texts segs)
+image_fits h t texts segs limits count counts lengths sizes = record {
+  counts = (omega (arith, limits.segs, count), omega (arith, limits.avail, counts.avail), omega (arith, limits.wanted, counts.wanted));
+  names = (omega (arith, limits.host, lengths.host), omega (arith, limits.version, lengths.version), omega (arith, limits.panic, lengths.panic));
+  msgbuf = omega (arith, limits.msgbuf, lengths.msgbuf);
+  sizes = sizes;
+}
+
+pub image_read : (file : Option (List ℕ)) (h : Front) (t : Tables) (texts : Texts) (segs : List Seg) (len : ℕ) → IsTyped (image_of h t texts segs) → FitsFields (image_of h t texts segs) → 112 + tables_length h + texts_length h ≤ len → length segs ≡ h.segs → HasCounts t h → HasLengths texts h → flat_map seg_bytes segs ≡ flat_map avail_bytes t.segs.items → IsSomeAnd file (λ f. length f ≡ len) → IfSome file (λ f. IsFront f h) → IfSome file (λ f. fault_place f ≡ None) → IfSome file (λ f. bytes_of t ≡ slice_range f 112 (112 + tables_length h)) → IfSome file (λ f. texts_of texts ≡ slice_range f (112 + tables_length h) (112 + tables_length h + texts_length h)) → IfSome file (λ f. concat (map (λ seg. seg.bytes) segs) ≡ slice_range f (112 + tables_length h + texts_length h) len) → IsSomeAnd file (λ f. SpellsImage f (image_of h t texts segs))
+image_read None h t texts segs len typed fits within count counts lengths table has front kept tables texts_are memory = has
+image_read (Some f) h t texts segs len typed fits within count counts lengths table has front kept tables texts_are memory =
     let read : IsRead f h t texts segs len = record { front = front; size = has; tables = tables; texts_are = texts_are; memory = memory } in
     record {
       typed = typed;
+      fits = fits;
       is = image_spelled f h t texts segs len read within count counts lengths table;
       no_fault = kept;
     }

@@ -3,6 +3,9 @@ mod Files
 mod Fronts
 mod Images
 mod Lengths
+mod OneReading
+mod OneSpelling
 mod Pairs
 mod Segments
 mod Slices
+mod Unfaulted

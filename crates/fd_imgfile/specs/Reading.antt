@@ -5,7 +5,7 @@ use Rattle.std.specs.Str.{bytes_eq}
 use Rattle.fd_bytes.specs.Field.{u32_le_at, u64_le_at}
 use Rattle.fd_image.specs.Image.{MachineImage, IsTyped, IsValid, broken_rule}
 use Rattle.fd_image.specs.declared.rules.BadImage as rules
-use Rattle.fd_imgfile.specs.Spelling.{magic, spelling_of}
+use Rattle.fd_imgfile.specs.Spelling.{FitsFields, magic, spelling_of}
 use Rattle.fd_imgfile.specs.declared.fault.ImageFault.{ImageFault}
 use Rattle.fd_imgfile.specs.declared.fault.ImageFault.TheVariants.{NoFile, NotImage, BadImage, SiteFault, NoMemory}
 
@@ -70,6 +70,7 @@ fault_place f = if nat_lt (length f) 112 then Some (length f) else by_front f (f
 -- a file spells an image, valid or not
 pub record SpellsImage (f : List ℕ) (m : MachineImage) : Type 0 where
   pub typed : IsTyped m
+  pub fits : FitsFields m
   pub is : f ≡ spelling_of m
   pub no_fault : fault_place f ≡ None
 
@@ -77,6 +78,7 @@ pub record SpellsImage (f : List ℕ) (m : MachineImage) : Type 0 where
 pub record SpellsBroken (f : List ℕ) (bad : rules.BadImage) : Type 0 where
   pub image : MachineImage
   pub typed : IsTyped image
+  pub fits : FitsFields image
   pub is : f ≡ spelling_of image
   pub no_fault : fault_place f ≡ None
   pub broken : broken_rule image ≡ Some bad
@@ -117,3 +119,12 @@ OnNotImage (Err NoMemory) P = Unit {0}
 -- the site may have failed, or memory have run out, but nothing is said of the file
 abbrev pub SaysNothing : {T : Type 0} → Result T ImageFault → Type 0
 SaysNothing result = OnNotImage result (λ place. ⊥)
+
+-- an answer that depends on the file alone
+abbrev pub TellsOfFile : Result MachineImage ImageFault → Type 0
+TellsOfFile (Ok m) = Unit {0}
+TellsOfFile (Err NoFile) = Unit {0}
+TellsOfFile (Err (NotImage place)) = Unit {0}
+TellsOfFile (Err (BadImage bad)) = Unit {0}
+TellsOfFile (Err SiteFault) = ⊥
+TellsOfFile (Err NoMemory) = ⊥

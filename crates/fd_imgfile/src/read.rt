@@ -221,6 +221,7 @@ fn read_segments<S: Site>(
     ensures places { IfOk result (λ segs. length segs.items ≡ length table.now) }
     ensures memory { IfOk result (λ segs. OfFile (S.told site.old) name.now (λ file. concat (map (λ seg. seg.bytes) segs.items) ≡ slice_range file at (at + sum_by second table.now))) }
     ensures typed { IfOk result (λ segs. All (λ seg. (seg.start < 2 ^ 64) × AreBytes seg.bytes) segs.items) }
+    ensures sizes { IfOk result (λ segs. All (λ seg. length seg.bytes < 2 ^ 64) segs.items) }
     ensures silent { SaysNothing result }
     ensures same { S.told site.new ≡ S.told site.old }
     ensures size { S.part_size site.new ≡ S.part_size site.old }

@@ -5,10 +5,10 @@ use Rattle.fd_image.specs.declared.parts.Seg.{Seg}
 use Rattle.fd_image.specs.declared.parts.Texts.{Texts}
 use Rattle.fd_site.specs.Contents.{file_of}
 use Rattle.fd_imgfile.specs.Front.{second, tables_length, texts_length}
-use Rattle.fd_imgfile.specs.Spelling.{avail_bytes, seg_bytes}
+use Rattle.fd_imgfile.specs.Spelling.{FitsFields, avail_bytes, seg_bytes}
 use Rattle.fd_imgfile.specs.declared.front.Front.{Front}
 use Rattle.fd_imgfile.specs.declared.tables.Tables.{Tables}
-use Rattle.fd_imgfile.proofs.Images.{image_of, image_read, image_typed}
+use Rattle.fd_imgfile.proofs.Images.{image_fits, image_of, image_read, image_typed}
 use Rattle.fd_imgfile.proofs.Segments.{read_to}
 use Rattle.fd_imgfile.proofs.read.read_parts.Goals as goal
 
@@ -27,6 +27,7 @@ returns-clause-parts g c =
     let typed : IsTyped (image_of h t texts segs) = image_typed h t texts segs c.in_ok-front.ensures.numbers c.in_ok-segs.ensures.typed c.in_ok-tables.ensures.avail c.in_ok-tables.ensures.wanted c.in_ok-texts.ensures.typed c.in_ok-texts.ensures.lengths in
     let whole : j + sum_by second t.segs.items ≡ c.args.len = c.in_ok-tables.ensures.whole in
     let count : length segs ≡ h.segs = c.in_ok-segs.ensures.places ∙ (ap length pairs ∙ c.in_ok-tables.ensures.counts.segs) in
+    let fits : FitsFields (image_of h t texts segs) = image_fits h t texts segs c.in_ok-front.ensures.limits count c.in_ok-tables.ensures.counts c.in_ok-texts.ensures.lengths c.in_ok-segs.ensures.sizes in
     let table : flat_map seg_bytes segs ≡ flat_map avail_bytes t.segs.items = c.in_ok-segs.ensures.table ∙ ap (flat_map avail_bytes) pairs in
     let end : c.tables_length-texts_at.result ≡ tables_length h = c.tables_length-texts_at.ensures in
     let more : c.texts_length.result ≡ texts_length h = c.texts_length.ensures in
@@ -34,7 +35,7 @@ returns-clause-parts g c =
     λ w is.
     let file : Option (List ℕ) = file_of w c.args.name.now in
     rw (c.new.ensures, c.new-2.ensures, c.new-3.ensures)
-    (image_read file h t texts segs c.args.len typed (omega (arith, whole)) count c.in_ok-tables.ensures.counts c.in_ok-texts.ensures.lengths table (c.requires.length w is)
+    (image_read file h t texts segs c.args.len typed fits (omega (arith, whole)) count c.in_ok-tables.ensures.counts c.in_ok-texts.ensures.lengths table (c.requires.length w is)
     (c.in_ok-front.ensures.front w is)
     (c.in_ok-tables.ensures.no_fault w (told-2 ∙ is))
     (c.in_ok-tables.ensures.spelling w (told-2 ∙ is))

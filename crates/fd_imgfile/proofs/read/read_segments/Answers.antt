@@ -43,6 +43,7 @@ loop-pair-preserved g c =
       table_so_far = ap (flat_map seg_bytes) pushed ∙ table_more segs seg table i pair (omega arith) (get_or_default table i (0, 0) pair (omega arith)) refl len_is c.loop-pair.invariant.table_so_far;
       memory = OfFile-both _ _ (λ file. concat (map (λ seg. seg.bytes) segs) ≡ slice_range file c.args.at next) (λ file. c.in_ok-read_bytes.field-0.items ≡ slice_range file next (next + pair.1)) (λ file. concat (map (λ seg. seg.bytes) c.push.new.self.items) ≡ slice_range file c.args.at (next + pair.1)) c.loop-pair.invariant.memory was (λ f before read. ap (λ (l : List Seg). concat (map (λ seg. seg.bytes) l)) pushed ∙ memory_more f segs seg c.args.at next (next + pair.1) (omega (arith, c.loop-pair.invariant.next)) (omega arith) before (c.new-bytes.ensures ∙ read));
       typed = rw pushed (All-push (λ seg. (seg.start < 2 ^ 64) × AreBytes seg.bytes) segs seg c.loop-pair.invariant.typed (omega arith, rw c.new-bytes.ensures c.in_ok-read_bytes.ensures.typed));
+      sizes = rw pushed (All-push (λ seg. length seg.bytes < 2 ^ 64) segs seg c.loop-pair.invariant.sizes (omega (arith, len_is)));
       same = c.in_ok-read_bytes.ensures.same ∙ c.loop-pair.invariant.same;
       size = c.in_ok-read_bytes.ensures.size ∙ c.loop-pair.invariant.size;
       block = c.in_ok-read_bytes.ensures.block ∙ c.loop-pair.invariant.block;

@@ -13,6 +13,7 @@ invariant-loop-pair g l = record {
   table_so_far : flat_map seg_bytes l.segs.items ≡ flat_map avail_bytes (take l.pair-index l.table);
   memory : OfFile (g.S.Site.told l.fn.site) l.name (λ file. concat (map (λ seg. seg.bytes) l.segs.items) ≡ slice_range file l.at l.next);
   typed : All (λ seg. (seg.start < 2 ^ 64) × AreBytes seg.bytes) l.segs.items;
+  sizes : All (λ seg. length seg.bytes < 2 ^ 64) l.segs.items;
   same : g.S.Site.told l.site ≡ g.S.Site.told l.fn.site;
   size : g.S.Site.part_size l.site ≡ g.S.Site.part_size l.fn.site;
   block : g.S.Site.block_size l.site ≡ g.S.Site.block_size l.fn.site;
