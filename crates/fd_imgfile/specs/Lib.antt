@@ -1,2 +1,4 @@
+pub mod File
+pub mod Front
 pub mod Reading
 pub mod Spelling

@@ -1,11 +1,11 @@
 -- What a file says of an image: the image, or why it spells none, or the rule that the image which it spells breaks.
-use Rattle.std.specs.Prelude.{◌≡◌, ℕ, ◌+◌, ◌*◌, ◌^◌, Bool, not, ◌==◌, nat_lt, nat_le, min, if◌then◌else◌, List, [], ◌∷◌, length, map, take, slice_range, Option, Some, None, IsSomeAnd, Result, Ok, Err}
+use Rattle.std.specs.Prelude.{◌≡◌, ℕ, ◌+◌, ◌*◌, Bool, ◌==◌, nat_lt, nat_le, min, if◌then◌else◌, List, [], ◌∷◌, length, map, take, Option, Some, None, IsSomeAnd, Result, Ok, Err}
 use Rattle.std.specs.List.{range_with_len, sum}
 use Rattle.std.specs.Str.{bytes_eq}
 use Rattle.fd_bytes.specs.Field.{u32_le_at, u64_le_at}
 use Rattle.fd_image.specs.Image.{MachineImage, IsTyped, IsValid, broken_rule}
 use Rattle.fd_image.specs.declared.rules.BadImage as rules
-use Rattle.fd_imgfile.specs.Spelling.{magic, spelling_of}
+use Rattle.fd_imgfile.specs.Spelling.{FitsFields, magic, spelling_of}
 use Rattle.fd_imgfile.specs.declared.fault.ImageFault.{ImageFault}
 use Rattle.fd_imgfile.specs.declared.fault.ImageFault.TheVariants.{NoFile, NotImage, BadImage, SiteFault, NoMemory}
 
@@ -67,11 +67,20 @@ by_front f (Some place) = Some place
 unfoldable pub fault_place : List ℕ → Option ℕ
 fault_place f = if nat_lt (length f) 112 then Some (length f) else by_front f (first_broken (front_checks f))
 
+-- a file spells an image, valid or not
+pub record SpellsImage (f : List ℕ) (m : MachineImage) : Type 0 where
+  pub typed : IsTyped m
+  pub fits : FitsFields m
+  pub is : f ≡ spelling_of m
+  pub no_fault : fault_place f ≡ None
+
 -- a file spells an image that breaks a rule
 pub record SpellsBroken (f : List ℕ) (bad : rules.BadImage) : Type 0 where
   pub image : MachineImage
   pub typed : IsTyped image
+  pub fits : FitsFields image
   pub is : f ≡ spelling_of image
+  pub no_fault : fault_place f ≡ None
   pub broken : broken_rule image ≡ Some bad
 
 -- a file spells a valid image
@@ -88,3 +97,34 @@ IsReading file (Err (NotImage place)) = IsSomeAnd file (λ f. fault_place f ≡ 
 IsReading file (Err (BadImage bad)) = IsSomeAnd file (λ f. SpellsBroken f bad)
 IsReading file (Err SiteFault) = Unit {0}
 IsReading file (Err NoMemory) = Unit {0}
+
+-- P where the site failed
+abbrev pub OnSiteFault : {T : Type 0} → Result T ImageFault → Type 0 → Type 0
+OnSiteFault (Ok x) P = Unit {0}
+OnSiteFault (Err NoFile) P = Unit {0}
+OnSiteFault (Err (NotImage place)) P = Unit {0}
+OnSiteFault (Err (BadImage bad)) P = Unit {0}
+OnSiteFault (Err SiteFault) P = P
+OnSiteFault (Err NoMemory) P = Unit {0}
+
+-- P of the place where the file is no image; there is a file, and no rule was looked at
+abbrev pub OnNotImage : {T : Type 0} → Result T ImageFault → (ℕ → Type 0) → Type 0
+OnNotImage (Ok x) P = Unit {0}
+OnNotImage (Err NoFile) P = ⊥
+OnNotImage (Err (NotImage place)) P = P place
+OnNotImage (Err (BadImage bad)) P = ⊥
+OnNotImage (Err SiteFault) P = Unit {0}
+OnNotImage (Err NoMemory) P = Unit {0}
+
+-- the site may have failed, or memory have run out, but nothing is said of the file
+abbrev pub SaysNothing : {T : Type 0} → Result T ImageFault → Type 0
+SaysNothing result = OnNotImage result (λ place. ⊥)
+
+-- an answer that depends on the file alone
+abbrev pub TellsOfFile : Result MachineImage ImageFault → Type 0
+TellsOfFile (Ok m) = Unit {0}
+TellsOfFile (Err NoFile) = Unit {0}
+TellsOfFile (Err (NotImage place)) = Unit {0}
+TellsOfFile (Err (BadImage bad)) = Unit {0}
+TellsOfFile (Err SiteFault) = ⊥
+TellsOfFile (Err NoMemory) = ⊥

@@ -1,5 +1,5 @@
 -- The file of a machine image. The format is this project's own; all numbers are little-endian.
-use Rattle.std.specs.Prelude.{ℕ, List, [], ◌∷◌, ◌++◌, length, map, codes}
+use Rattle.std.specs.Prelude.{ℕ, ◌^◌, ◌<◌, All, List, ◌++◌, length, map, codes}
 use Rattle.std.specs.Int.{w32, w64, to_le_bytes}
 use Rattle.std.specs.List.{concat, flat_map}
 use Rattle.fd_bytes.specs.declared.arch.Arch.{Arch}
@@ -66,3 +66,10 @@ memory_of m = concat (map (λ seg. seg.bytes) m.segs)
 -- the file of an image
 unfoldable pub spelling_of : MachineImage → List ℕ
 spelling_of m = front_of m ++ tables_of m ++ texts_of m.texts ++ memory_of m
+
+-- the counts and the lengths fit their fields
+pub record FitsFields (m : MachineImage) : Type 0 where
+  pub counts : (length m.segs < 2 ^ 32) × (length m.avail < 2 ^ 32) × (length m.wanted < 2 ^ 32)
+  pub names : (length m.texts.host < 2 ^ 32) × (length m.texts.version < 2 ^ 32) × (length m.texts.panic < 2 ^ 32)
+  pub msgbuf : length m.texts.msgbuf < 2 ^ 32
+  pub sizes : All (λ seg. length seg.bytes < 2 ^ 64) m.segs

@@ -1,5 +1,7 @@
 //! Why no image was read.
 use fd_image::BadImage;
+use fd_site::Failed;
+use std::alloc::AllocError;
 
 /// Why no image was read.
 #[derive(Clone, Copy, PartialEq, Eq, Debug)]
@@ -15,4 +17,26 @@ pub enum ImageFault {
     SiteFault,
     /// No memory was left.
     NoMemory,
+}
+
+impl From<Failed> for ImageFault {
+    ghost use Rattle.std.specs.Prelude.{◌≡◌};
+    ghost use Rattle.fd_imgfile.specs.declared.fault.ImageFault.TheVariants.{SiteFault};
+
+    ghost from_gives = { λ _ fault. fault ≡ SiteFault };
+
+    fn from(_: Failed) -> ImageFault {
+        ImageFault::SiteFault
+    }
+}
+
+impl From<AllocError> for ImageFault {
+    ghost use Rattle.std.specs.Prelude.{◌≡◌};
+    ghost use Rattle.fd_imgfile.specs.declared.fault.ImageFault.TheVariants.{NoMemory};
+
+    ghost from_gives = { λ _ fault. fault ≡ NoMemory };
+
+    fn from(_: AllocError) -> ImageFault {
+        ImageFault::NoMemory
+    }
 }

@@ -3,5 +3,10 @@
 #![tactic(auto)]
 
 mod fault;
+mod front;
+pub mod laws;
+mod read;
+mod tables;
 
 pub use fault::ImageFault;
+pub use read::read_image;

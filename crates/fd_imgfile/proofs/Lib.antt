@@ -1,0 +1,11 @@
+mod Fields
+mod Files
+mod Fronts
+mod Images
+mod Lengths
+mod OneReading
+mod OneSpelling
+mod Pairs
+mod Segments
+mod Slices
+mod Unfaulted

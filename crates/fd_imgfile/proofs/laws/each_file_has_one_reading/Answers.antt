@@ -1,0 +1,5 @@
+use Rattle.fd_imgfile.proofs.OneReading.{one_reading}
+use Rattle.fd_imgfile.proofs.laws.each_file_has_one_reading.Goals as goal
+
+pub returns : goal.returns
+returns c = one_reading

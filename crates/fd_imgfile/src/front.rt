@@ -1,0 +1,152 @@
+//! The fields with which an image's file begins.
+ghost use Rattle.std.specs.Prelude.{◌≡◌, ◌+◌, ◌<◌, ◌≤◌, ◌^◌, IfNone, None, IfOk, IfErr, Some, length, slice_range};
+ghost use Rattle.fd_bytes.specs.Field.{u32_le_at};
+ghost use Rattle.fd_imgfile.specs.Front.{fields_of, AreNumbers, IsCounted, IsWithinLimits, tables_length, texts_length};
+ghost use Rattle.fd_imgfile.specs.Reading.{first_broken, front_checks, within};
+ghost use Rattle.fd_imgfile.specs.Spelling.{number_of, windows_of};
+
+use fd_bytes::{Arch, get_u32_le, get_u64_le};
+use fd_image::Windows;
+
+const MAGIC: [u8; 16] = *b"FD MACHINE IMAGE";
+
+/// What the fields behind the magic and the version say: how many segments, pairs of available memory and wanted pages
+/// the tables have, how many bytes each text has, and the image's own numbers.
+#[derive(Clone, Copy)]
+pub(crate) struct Front {
+    pub(crate) arch: Arch,
+    pub(crate) segs: u32,
+    pub(crate) avail: u32,
+    pub(crate) wanted: u32,
+    pub(crate) host: u32,
+    pub(crate) version: u32,
+    pub(crate) panic: u32,
+    pub(crate) msgbuf: u32,
+    pub(crate) root: u64,
+    pub(crate) windows: Windows,
+    pub(crate) time: u64,
+}
+
+/// How many bytes the tables take.
+pub(crate) fn tables_length(front: &Front) -> u64
+    ensures { result ≡ tables_length front.now }
+{
+    16 * u64::from(front.segs) + 16 * u64::from(front.avail) + 8 * u64::from(front.wanted)
+}
+
+/// How many bytes the texts take.
+pub(crate) fn texts_length(front: &Front) -> u64
+    ensures { result ≡ texts_length front.now }
+{
+    u64::from(front.host)
+        + u64::from(front.version)
+        + u64::from(front.panic)
+        + u64::from(front.msgbuf)
+}
+
+/// The fields, or the place of the first that no image has there.
+pub(crate) fn read_fields(bytes: &[u8]) -> Result<Front, u64>
+    requires { length bytes.now ≡ 112 }
+    ensures broken { IfErr result (λ place. first_broken (front_checks bytes.now) ≡ Some place) }
+    ensures kept { IfOk result (λ _. first_broken (front_checks bytes.now) ≡ None) }
+    ensures spelling { IfOk result (λ front. bytes.now ≡ fields_of front) }
+    ensures counts { IfOk result (λ front. IsCounted bytes.now front) }
+    ensures limits { IfOk result (λ front. IsWithinLimits front) }
+    ensures numbers { IfOk result (λ front. AreNumbers front) }
+{
+    match broken_field(bytes) {
+        Some(place) => Err(place),
+        None => Ok(fields_of(bytes)),
+    }
+}
+
+// The place of the first field that no image has there.
+fn broken_field(bytes: &[u8]) -> Option<u64>
+    requires { length bytes.now ≡ 112 }
+    ensures { result ≡ first_broken (front_checks bytes.now) }
+{
+    let checks = [
+        (bytes[..16] == MAGIC[..], 0),
+        (get_u32_le(bytes, 16) == 1, 16),
+        (0 < get_u32_le(bytes, 20), 20),
+        within(bytes, 20, 3),
+        within(bytes, 24, 64),
+        within(bytes, 28, 1024),
+        within(bytes, 32, 262_144),
+        within(bytes, 36, 255),
+        within(bytes, 40, 1023),
+        within(bytes, 44, 1023),
+        within(bytes, 48, 1_048_576),
+        (get_u32_le(bytes, 52) == 0, 52),
+    ];
+    first_broken(&checks)
+}
+
+fn within(bytes: &[u8], at: usize, limit: u32) -> (bool, u64)
+    requires { at + 4 ≤ length bytes.now }
+    ensures { result ≡ within bytes.now at limit }
+{
+    (get_u32_le(bytes, at) <= limit, at as u64)
+}
+
+fn first_broken(checks: &[(bool, u64); 12]) -> Option<u64>
+    ensures { result ≡ first_broken checks.now }
+{
+    for (kept, place) in checks {
+        if !*kept {
+            return Some(*place);
+        }
+    }
+    None
+}
+
+fn fields_of(bytes: &[u8]) -> Front
+    requires len { length bytes.now ≡ 112 }
+    requires kept { first_broken (front_checks bytes.now) ≡ None }
+    ensures spelling { bytes.now ≡ fields_of result }
+    ensures counts { IsCounted bytes.now result }
+    ensures limits { IsWithinLimits result }
+    ensures numbers { AreNumbers result }
+{
+    Front {
+        arch: arch_of(get_u32_le(bytes, 20)),
+        segs: get_u32_le(bytes, 24),
+        avail: get_u32_le(bytes, 28),
+        wanted: get_u32_le(bytes, 32),
+        host: get_u32_le(bytes, 36),
+        version: get_u32_le(bytes, 40),
+        panic: get_u32_le(bytes, 44),
+        msgbuf: get_u32_le(bytes, 48),
+        root: get_u64_le(bytes, 56),
+        windows: windows_in(bytes),
+        time: get_u64_le(bytes, 104),
+    }
+}
+
+fn windows_in(bytes: &[u8]) -> Windows
+    requires { length bytes.now ≡ 112 }
+    ensures spelling { slice_range bytes.now 64 104 ≡ windows_of result }
+    ensures kernel_window { (result.kernbase < 2 ^ 64) × (result.kernspan < 2 ^ 64) }
+    ensures direct_map { (result.dmapbase < 2 ^ 64) × (result.dmapend < 2 ^ 64) × (result.dmapphys < 2 ^ 64) }
+{
+    Windows {
+        kernbase: get_u64_le(bytes, 64),
+        kernspan: get_u64_le(bytes, 72),
+        dmapbase: get_u64_le(bytes, 80),
+        dmapend: get_u64_le(bytes, 88),
+        dmapphys: get_u64_le(bytes, 96),
+    }
+}
+
+// The architecture of a number.
+fn arch_of(number: u32) -> Arch
+    requires some { 0 < number }
+    requires last { number ≤ 3 }
+    ensures { number_of result ≡ number }
+{
+    match number {
+        1 => Arch::Amd64,
+        2 => Arch::Arm64,
+        _ => Arch::Riscv,
+    }
+}
