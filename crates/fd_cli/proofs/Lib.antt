@@ -1,4 +1,5 @@
 mod Answers
 mod Begun
 mod Cuts
+mod Reading
 mod Refused

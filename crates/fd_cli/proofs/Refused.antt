@@ -4,11 +4,10 @@ use Rattle.fd_site.specs.Contents.{Contents, Told, file_of}
 use Rattle.fd_imgfile.specs.Reading.{IsReading}
 use Rattle.fd_imgfile.specs.declared.fault.ImageFault.{ImageFault}
 use Rattle.fd_part.specs.Partition.{is_good}
-use Rattle.fd_vmcore.specs.Sections.{opened_file}
+use Rattle.fd_vmcore.specs.Sections.{IsOpening, opened_file}
 use Rattle.fd_vmcore.specs.declared.open.OpenFault.{OpenFault}
 use Rattle.fd_vmcore.specs.declared.open.OpenFault.TheVariants.{NoFile, Short, Mini, BadAvail, SiteFault, NoMemory}
 use Rattle.fd_kvm.specs.Answer.{by_sections}
-use Rattle.fd_kvm.specs.Reader.{IsOpeningOf}
 use Rattle.fd_cli.specs.Outcome.{OnGood, IsAnswerToImage, IsDumpAnswer, IsAnswerToFile, IsReadAnswer, file_answer}
 use Rattle.fd_cli.specs.Reply.{Replies}
 use Rattle.fd_cli.specs.declared.answer.Answer.{Answer}
@@ -36,7 +35,7 @@ answered told name va count fault answer opening is = (Err fault, (λ c told_is.
 
 -- the answer to a file that isn't opened is one to `read`
 pub file_refused : (told : Option Contents) (name : List ℕ) (va count : ℕ) (fault : OpenFault) (result : Result Answer Trouble)
-    → Told told (λ c. IsOpeningOf name (opened_file (file_of c name)) (Err fault)) → IfOk result (λ answer. (at : ℕ) → IsAnswerToFile at (Err fault) answer)
+    → Told told (λ c. IsOpening (opened_file (file_of c name)) (Err fault)) → IfOk result (λ answer. (at : ℕ) → IsAnswerToFile at (Err fault) answer)
     → IfOk result (IsReadAnswer told name va count)
 file_refused told name va count fault (Err trouble) opening is = tt
 file_refused told name va count NoFile (Ok answer) opening is = answered told name va count NoFile answer opening (is va)

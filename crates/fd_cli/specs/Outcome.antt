@@ -16,7 +16,8 @@ use Rattle.fd_mini.specs.declared.address_fault.AddressFault.{AddressFault}
 use Rattle.fd_vmcore.specs.Sections.{Sections, opened_file}
 use Rattle.fd_vmcore.specs.declared.open.OpenFault.{OpenFault}
 use Rattle.fd_vmcore.specs.declared.open.OpenFault.TheVariants as vmcore
-use Rattle.fd_kvm.specs.Answer.{answer_of}
+use Rattle.fd_kvm.specs.Answer.{answer_of, bytes_in}
+use Rattle.fd_kvm.specs.Reader.{Reader}
 use Rattle.fd_cli.specs.declared.refusal.Refusal.TheVariants.{Judged, Address, NoFile, NotImage, BadImage, NoRoom, Partition, Mini, Short, BadAvail, NotCommand}
 use Rattle.fd_cli.specs.declared.answer.Answer.{Answer}
 use Rattle.fd_cli.specs.declared.answer.Answer.TheVariants.{Dump, Dumped, Read, Refused}
@@ -60,13 +61,13 @@ abbrev pub IsDumpAnswer : Option Contents → (size block : ℕ) → (name : Lis
 IsDumpAnswer told size block name answer =
     (reading : Result MachineImage ImageFault) × Told told (λ c. IsReading (file_of c name) reading) × IsAnswerToImage size block reading answer
 
--- the answer of `read`, by the first fault of an address
+-- the answer of `read`, by the bytes and the first fault of an address
+abbrev pub answer_by : (va : ℕ) → List ℕ → Option AddressFault → Answer
+answer_by va bytes None = Read va bytes
+answer_by va bytes (Some fault) = Refused (Address fault)
+
 abbrev pub bytes_answer : (va : ℕ) → KernelBytes → Answer
-bytes_answer va given = by_fault given.fault
-  where
-    by_fault : Option AddressFault → Answer
-    by_fault None = Read va given.bytes
-    by_fault (Some fault) = Refused (Address fault)
+bytes_answer va given = answer_by va given.bytes given.fault
 
 -- the answer of `read`, by what the file answers
 abbrev pub IsAnswerToFile : (va : ℕ) → Result KernelBytes OpenFault → Answer → Type 0
@@ -82,6 +83,15 @@ IsAnswerToFile va (Err vmcore.NoMemory) answer = ⊥
 abbrev pub file_answer : Option (List ℕ) → (va count : ℕ) → Result KernelBytes OpenFault
 file_answer None va count = Err vmcore.NoFile
 file_answer (Some f) va count = answer_of f va count
+
+-- the answer of a reader of a vmcore
+abbrev pub IsReaderAnswer : Option Contents → Reader → (va count : ℕ) → Answer → Type 0
+IsReaderAnswer told reader va count answer =
+    Told told (λ c. (f : List ℕ) → file_of c reader.name ≡ Some f → answer ≡ bytes_answer va (bytes_in f reader.sections va count))
+
+-- an answer that a read may have, whatever the file is
+abbrev pub IsSomeRead : (va : ℕ) → Answer → Type 0
+IsSomeRead va answer = (given : KernelBytes) × (answer ≡ bytes_answer va given)
 
 -- the answer of `read`
 abbrev pub IsReadAnswer : Option Contents → (name : List ℕ) → (va count : ℕ) → Answer → Type 0

@@ -1,8 +1,10 @@
 ghost use Rattle.std.specs.Prelude.{◌≡◌, ◌≤◌, ℕ, Err, IfOk, IsTrue};
+ghost use Rattle.fd_site.specs.Contents.{Told};
 ghost use Rattle.fd_site.specs.Fault.{Rose};
 ghost use Rattle.fd_site.specs.Name.{is_good_name};
+ghost use Rattle.fd_kvm.specs.Reader.{StandsFor};
 ghost use Rattle.fd_cli.specs.Ending.{IsPrintable};
-ghost use Rattle.fd_cli.specs.Outcome.{IsAnswerToFile, IsReadAnswer};
+ghost use Rattle.fd_cli.specs.Outcome.{IsAnswerToFile, IsReadAnswer, IsReaderAnswer, IsSomeRead};
 ghost use Rattle.fd_cli.specs.Reply.{OnSiteFault};
 ghost use Rattle.fd_vmcore.specs.declared.open.OpenFault.TheVariants.{SiteFault};
 
@@ -33,6 +35,36 @@ fn refuse_file(fault: OpenFault) -> Result<Answer, Trouble>
     Ok(Answer::Refused(refusal))
 }
 
+// The bytes of the file that a reader stands for.
+#[tactic(auto, using(crate::proofs::Reading::whole_answer, crate::proofs::Reading::fault_answer))]
+fn read_bytes<S: Site>(
+    alloc: Global,
+    site: &mut S,
+    kvm: &Kvm,
+    address: u64,
+    count: u32,
+) -> Result<Answer, Trouble>
+    requires { Told (S.told site.old) (StandsFor kvm.now) }
+    ensures answer { IfOk result (IsReaderAnswer (S.told site.old) kvm.now address count) }
+    ensures some { IfOk result (IsSomeRead address) }
+    ensures printable { IfOk result IsPrintable }
+    ensures same { S.told site.new ≡ S.told site.old }
+    ensures size { S.part_size site.new ≡ S.part_size site.old }
+    ensures block { S.block_size site.new ≡ S.block_size site.old }
+    ensures count { S.faults site.old ≤ S.faults site.new }
+    ensures cause { OnSiteFault result (Rose (S.faults site.old) (S.faults site.new)) }
+{
+    let mut bytes = vec![in alloc; 0u8; count as usize]?;
+    match kvm.read(site, address, &mut bytes) {
+        Ok(()) => Ok(Answer::Read {
+            address,
+            bytes: Sequence::new(bytes),
+        }),
+        Err(ReadFault::Address(fault)) => Ok(Answer::Refused(Refusal::Address(fault))),
+        Err(ReadFault::SiteFault) => Err(Trouble::SiteFault),
+    }
+}
+
 /// `read FILE ADDRESS LENGTH`: the bytes of a vmcore at kernel addresses.
 pub(crate) fn read_memory<S: Site>(
     alloc: Global,
@@ -54,13 +86,5 @@ pub(crate) fn read_memory<S: Site>(
         Ok(kvm) => kvm,
         Err(fault) => return refuse_file(fault),
     };
-    let mut bytes = vec![in alloc; 0u8; count as usize]?;
-    match kvm.read(site, address, &mut bytes) {
-        Ok(()) => Ok(Answer::Read {
-            address,
-            bytes: Sequence::new(bytes),
-        }),
-        Err(ReadFault::Address(fault)) => Ok(Answer::Refused(Refusal::Address(fault))),
-        Err(ReadFault::SiteFault) => Err(Trouble::SiteFault),
-    }
+    read_bytes(alloc, site, &kvm, address, count)
 }

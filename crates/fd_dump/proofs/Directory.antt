@@ -1,5 +1,5 @@
 -- The page directory, page by page.
-use Rattle.std.proofs.Common.{◌≡◌, ◌∙◌, ℕ, zero, suc, ◌+◌, ◌*◌, ◌/◌, ◌^◌, ◌<◌, ◌≤◌, List, [], ◌∷◌, ◌++◌, refl, ap, arith, zero-add}
+use Rattle.std.proofs.Common.{◌≡◌, ◌∙◌, ℕ, zero, suc, ◌+◌, ◌*◌, ◌/◌, ◌%◌, ◌^◌, ◌<◌, ◌≤◌, List, [], ◌∷◌, ◌++◌, refl, ap, arith, zero-add}
 use Rattle.std.specs.Int.{w64, to_le_bytes}
 use Rattle.std.specs.List.{flat_map, range_with_len}
 use Rattle.std.proofs.lemmas.List.Concat.{flat_map-append}
@@ -85,3 +85,7 @@ pub page_within : (m : MachineImage) (base height index : ℕ) → IsValid m →
     → base + (index + 1) * (512 * bytes_under height) ≤ 2 ^ 64
 page_within m base height index valid is_base is_height below =
     rw (is_base, is_height) (within m.arch m.windows index (window_divided m valid) below)
+
+-- the window begins with a whole page of the directory
+pub page_begins : (m : MachineImage) (base height : ℕ) → IsValid m → base ≡ m.windows.kernbase → height ≡ directory_height_of m.arch → base % (512 * bytes_under height) ≡ 0
+page_begins m base height valid is_base is_height = rw (is_base, is_height) ((window_divided m valid).base)
