@@ -7,6 +7,8 @@ mod read;
 mod reader;
 mod run;
 mod span;
+#[cfg(test)]
+mod tests;
 
 pub use fault::ReadFault;
 pub use reader::Kvm;
