@@ -7,6 +7,8 @@ mod front;
 pub mod laws;
 mod read;
 mod tables;
+#[cfg(test)]
+mod tests;
 
 pub use fault::ImageFault;
 pub use read::read_image;
