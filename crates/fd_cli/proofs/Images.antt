@@ -32,7 +32,7 @@ image_answer : (law : ReadingLaw) (told : Option Contents) (name : List ℕ) (va
     → file_of c name ≡ Some (minidump_of m) → (answer : Answer) → IsReadAnswer told name va count answer → answer ≡ bytes_answer va (kernel_read m va count)
 image_answer law told name va count c m told_is valid is answer (given, stands, answers) =
     by_given va given (kernel_read m va count) answer
-      (stands c told_is ∙ ap (λ file. file_answer file va count) is ∙ law m va count valid) answers
+    (stands c told_is ∙ ap (λ file. file_answer file va count) is ∙ law m va count valid) answers
 
 -- the same of any command
 pub image_of_command : (law : ReadingLaw) (command : Option Command) (told : Option Contents) (size block status : ℕ) (old new : Option (List ℕ))
@@ -42,5 +42,5 @@ image_of_command law (Some command.Judge) told size block status old new ended =
 image_of_command law (Some (command.Dump name)) told size block status old new ended = tt
 image_of_command law (Some (command.Read name va count)) told size block status old new ended =
     λ c told_is m valid is.
-      ends_as (IsReadAnswer told name va count) (λ answer. answer ≡ bytes_answer va (kernel_read m va count)) status old new
-        (λ answer. image_answer law told name va count c m told_is valid is answer) ended
+    ends_as (IsReadAnswer told name va count) (λ answer. answer ≡ bytes_answer va (kernel_read m va count)) status old new
+    (λ answer. image_answer law told name va count c m told_is valid is answer) ended

@@ -13,4 +13,4 @@ returns-clause-crash g c = each_cut_of_command _ _ _ _ _ (λ d told. g.met.S.Sit
 pub returns-clause-reads : goal.returns-clause-reads
 returns-clause-reads g c =
     image_of_command c.each_read_of_a_minidump_is_the_images.ensures (command_of c.args.words.now) (g.S.Site.told c.args.site.now) (g.S.Site.part_size c.args.site.now)
-      (g.S.Site.block_size c.args.site.now) c.carry_out.result (g.O.Sink.told c.args.out.now) (g.O.Sink.told c.carry_out.new.out) c.carry_out.ensures.ends
+    (g.S.Site.block_size c.args.site.now) c.carry_out.result (g.O.Sink.told c.args.out.now) (g.O.Sink.told c.carry_out.new.out) c.carry_out.ensures.ends
