@@ -1,5 +1,6 @@
 mod Answers
 mod Begun
 mod Cuts
+mod Images
 mod Reading
 mod Refused

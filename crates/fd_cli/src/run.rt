@@ -4,6 +4,7 @@ ghost use Rattle.fd_site.specs.Name.{is_good_name};
 ghost use Rattle.fd_cli.specs.Command.{command_of};
 ghost use Rattle.fd_cli.specs.Dump.{EachCut, HasDumped, IfDump, IsFound, MayHaveAdded};
 ghost use Rattle.fd_cli.specs.Ending.{Ends};
+ghost use Rattle.fd_cli.specs.Kernel.{IfRead, ReadsImage};
 ghost use Rattle.fd_cli.specs.Outcome.{IsAnswer, IsJudgeAnswer, IsReadAnswer, OnGood};
 ghost use Rattle.fd_cli.specs.Reply.{OnNoMemory, OnSiteFault, Replies};
 
@@ -17,6 +18,7 @@ use crate::reply::{Reply, Trouble};
 use crate::status;
 use crate::word::Word;
 use fd_site::{Link, Ports, Sink, Site, SiteFault};
+use fd_way::laws::each_read_of_a_minidump_is_the_images;
 use std::alloc::Global;
 
 // The reply to `savecore -C`.
@@ -86,6 +88,36 @@ fn work<S: Site>(alloc: Global, words: &[Word], site: &mut S) -> Result<Reply, T
     }
 }
 
+// Replies to the words, and prints the reply.
+fn carry_out<S: Site, L: Link, P: Ports, O: Sink>(
+    alloc: Global,
+    words: &[Word],
+    site: &mut S,
+    link: &mut L,
+    ports: &mut P,
+    out: &mut O,
+) -> u8
+    ensures ends { Ends (IsAnswer (S.told site.old) (S.part_size site.old) (S.block_size site.old) (command_of words.now)) result (O.told out.old) (O.told out.new) }
+    ensures fault { result ≡ 74 → Rose (S.faults site.old) (S.faults site.new) ⊎ Rose (O.faults out.old) (O.faults out.new) }
+    ensures memory { result ≡ 71 → S.told site.new ≡ S.told site.old }
+    ensures entries { MayHaveAdded (S.told site.old) (S.told site.new) (S.part_size site.old) (S.block_size site.old) (command_of words.now) }
+    ensures dumped { result ≡ 0 → IfDump (command_of words.now) (HasDumped (S.told site.old) (S.told site.new) (S.part_size site.old) (S.block_size site.old)) }
+    ensures size { S.part_size site.new ≡ S.part_size site.old }
+    ensures block { S.block_size site.new ≡ S.block_size site.old }
+    ensures link { (L.told link.new ≡ L.told link.old) × (L.faults link.new ≡ L.faults link.old) }
+    ensures ports { (P.told ports.new ≡ P.told ports.old) × (P.faults ports.new ≡ P.faults ports.old) }
+{
+    let reply = match work(alloc, words, site) {
+        Ok(reply) => reply,
+        Err(Trouble::SiteFault) => return status::FAULT,
+        Err(Trouble::NoMemory) => return status::MEMORY,
+    };
+    match out.put(reply.text.as_bytes()) {
+        Ok(()) => reply.status,
+        Err(_) => status::FAULT,
+    }
+}
+
 /// Does what the words ask for, prints its text and answers its status.
 ///
 /// `savecore -C` judges the partition and prints `dump LENGTH`, or the refusal with status 1. `dump IMAGE` writes the
@@ -109,18 +141,12 @@ pub fn crashway<S: Site, L: Link, P: Ports, O: Sink>(
     ensures dumped { result ≡ 0 → IfDump (command_of words.now) (HasDumped (S.told site.old) (S.told site.new) (S.part_size site.old) (S.block_size site.old)) }
     ensures found { result ≡ 0 → IfDump (command_of words.now) (λ name. IsFound (S.told site.old) (S.told site.new) name (S.block_size site.old)) }
     ensures crash { IfDump (command_of words.now) (λ name. EachCut (S.told site.old) (S.told site.new) name (S.block_size site.old)) }
+    ensures reads { IfRead (command_of words.now) (λ name va count. ReadsImage (S.told site.old) name va count result (O.told out.old) (O.told out.new)) }
     ensures size { S.part_size site.new ≡ S.part_size site.old }
     ensures block { S.block_size site.new ≡ S.block_size site.old }
     ensures link { (L.told link.new ≡ L.told link.old) × (L.faults link.new ≡ L.faults link.old) }
     ensures ports { (P.told ports.new ≡ P.told ports.old) × (P.faults ports.new ≡ P.faults ports.old) }
 {
-    let reply = match work(alloc, words, site) {
-        Ok(reply) => reply,
-        Err(Trouble::SiteFault) => return status::FAULT,
-        Err(Trouble::NoMemory) => return status::MEMORY,
-    };
-    match out.put(reply.text.as_bytes()) {
-        Ok(()) => reply.status,
-        Err(_) => status::FAULT,
-    }
+    each_read_of_a_minidump_is_the_images();
+    carry_out(alloc, words, site, link, ports, out)
 }

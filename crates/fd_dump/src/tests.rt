@@ -6,23 +6,35 @@ use fd_site::Pieces;
 use std::alloc::{AllocError, Global};
 use std::test::Fail;
 
-// The words of the machines' memories: page tables of an amd64 machine, pages that hold their own addresses, and zeros.
+// The entries of the amd64 machine's page tables that aren't 0.
+const ENTRIES: [(u64, u64); 8] = [
+    (0x10_0fe0, 0x10_1003),
+    (0x10_1000, 0x4000_0083),
+    (0x10_1008, 0x10_2003),
+    (0x10_2000, 0x10_3003),
+    (0x10_2008, 0x6000_0003),
+    (0x10_3000, 0x10_4003),
+    (0x10_3008, 0x8000_0000_0010_5001),
+    (0x10_3010, 0x6000_0003),
+];
+
+// The pages whose words are their own addresses.
+const PAGES: [u64; 8] = [
+    0x104, 0x105, 0x401ff, 0x40200, 0x60000, 0x80001, 0x80002, 0x80004,
+];
+
 fn word_at(pa: u64) -> u64 {
-    match pa {
-        0x10_0fe0 => 0x10_1003,
-        0x10_1000 => 0x4000_0083,
-        0x10_1008 => 0x10_2003,
-        0x10_2000 => 0x10_3003,
-        0x10_2008 => 0x6000_0003,
-        0x10_3000 => 0x10_4003,
-        0x10_3008 => 0x8000_0000_0010_5001,
-        0x10_3010 => 0x6000_0003,
-        _ => match pa / 4096 {
-            0x104 | 0x105 | 0x401ff | 0x40200 | 0x60000 => pa,
-            0x80001 | 0x80002 | 0x80004 => pa,
-            _ => 0,
-        },
+    for (place, entry) in ENTRIES {
+        if place == pa {
+            return entry;
+        }
     }
+    for page in PAGES {
+        if page == pa / 4096 {
+            return pa;
+        }
+    }
+    0
 }
 
 fn segment(alloc: Global, start: u64, pages: u64) -> Result<Seg, AllocError> {
@@ -132,14 +144,6 @@ fn bytes_at(dump: &[u8], at: usize, count: usize) -> &[u8] {
     &dump[at..at + count]
 }
 
-// The little-endian word at a place.
-fn word_in(dump: &[u8], at: usize) -> Option<u64> {
-    match bytes_at(dump, at, 8) {
-        [a, b, c, d, e, f, g, h] => { Some(u64::from_le_bytes([*a, *b, *c, *d, *e, *f, *g, *h])) }
-        _ => None,
-    }
-}
-
 #[test]
 fn sections_stand_in_order(rt: HostRuntime) -> Result<(), Fail> {
     let image = riscv(rt.alloc())?;
@@ -152,7 +156,7 @@ fn sections_stand_in_order(rt: HostRuntime) -> Result<(), Fail> {
         b"panic: test\n\0".as_slice()
     );
     for (at, word) in [
-        (8192, 0x8000_0000),
+        (8192, 0x8000_0000u64),
         (8200, 0x8000_6000),
         (8208, 0),
         (8216, 0),
@@ -163,7 +167,11 @@ fn sections_stand_in_order(rt: HostRuntime) -> Result<(), Fail> {
         (28672, 0x8000_4000),
         (32760, 0x8000_4ff8),
     ] {
-        assert_eq!(rt; word_in(dump.as_slice(), at), Some(word), "at {at}");
+        assert_eq!(rt;
+            bytes_at(dump.as_slice(), at, 8),
+            word.to_le_bytes().as_slice(),
+            "at {at}"
+        );
     }
     Ok(())
 }
@@ -174,7 +182,7 @@ fn leaves_and_last_level_tables_are_dumped(rt: HostRuntime) -> Result<(), Fail> 
     let dump = dump_of(rt.alloc(), &image)?;
     assert_eq!(rt; dump.len(), 45056);
     for (at, word) in [
-        (4096, 0x10_0000),
+        (4096, 0x10_0000u64),
         (8192, 0xf9),
         (12288, 0x4000_0083),
         (12296, 0x4020_0083),
@@ -186,7 +194,11 @@ fn leaves_and_last_level_tables_are_dumped(rt: HostRuntime) -> Result<(), Fail> 
         (36864, 0x401f_f000),
         (40960, 0x4020_0000),
     ] {
-        assert_eq!(rt; word_in(dump.as_slice(), at), Some(word), "at {at}");
+        assert_eq!(rt;
+            bytes_at(dump.as_slice(), at, 8),
+            word.to_le_bytes().as_slice(),
+            "at {at}"
+        );
     }
     Ok(())
 }
@@ -196,8 +208,13 @@ fn pages_outside_the_direct_map_are_left_out(rt: HostRuntime) -> Result<(), Fail
     let image = arm64(rt.alloc())?;
     let dump = dump_of(rt.alloc(), &image)?;
     assert_eq!(rt; dump.len(), 24576);
-    assert_eq!(rt; word_in(dump.as_slice(), 8192), Some(2));
-    assert_eq!(rt; word_in(dump.as_slice(), 20480), Some(0x8000_1000));
+    for (at, word) in [(8192, 2u64), (20480, 0x8000_1000)] {
+        assert_eq!(rt;
+            bytes_at(dump.as_slice(), at, 8),
+            word.to_le_bytes().as_slice(),
+            "at {at}"
+        );
+    }
     Ok(())
 }
 

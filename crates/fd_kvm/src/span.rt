@@ -1,12 +1,11 @@
 //! The physical addresses that kernel addresses stand for.
 ghost use Rattle.std.specs.Prelude.{◌≡◌, ℕ, ◌+◌, ◌-◌, ◌*◌, ◌%◌, ◌<◌, ◌≤◌, ◌^◌, List, Some, IfOk, IsTrue, IsSomeAnd, OnErr, length, min};
-ghost use Rattle.std.specs.Int.{w64};
 ghost use Rattle.fd_site.specs.Contents.{Told, file_of};
 ghost use Rattle.fd_site.specs.Fault.{Rose};
 ghost use Rattle.fd_bytes.specs.Field.{u64_le_at};
 ghost use Rattle.fd_vmcore.specs.Sections.{page_offset};
 ghost use Rattle.fd_kvm.specs.Cause.{OnSiteFault};
-ghost use Rattle.fd_kvm.specs.Place.{unit_of, is_in_kernel_window, is_in_direct_map, window_is_first, entry_index, by_direct_map, by_entry, by_table, placed};
+ghost use Rattle.fd_kvm.specs.Place.{unit_of, is_in_kernel_window, is_in_direct_map, window_is_first, entry_index, by_entry, by_table, placed};
 ghost use Rattle.fd_kvm.specs.Reader.{StandsFor};
 ghost use Rattle.fd_kvm.specs.Runs.{IsOfAddress, IsSpan, is_by_window, unit_offset, up_to, window_limit};
 

@@ -1,13 +1,12 @@
 //! An open vmcore.
-ghost use Rattle.std.specs.Prelude.{◌≡◌, ℕ, ◌+◌, ◌≤◌, ◌<◌, ◌^◌, ◌*◌, IfSome, IsTrue, List, Some, length};
+ghost use Rattle.std.specs.Prelude.{◌≡◌, ℕ, ◌≤◌, ◌<◌, ◌^◌, IfSome, IsTrue, List, Some};
 ghost use Rattle.fd_site.specs.Contents.{Told, file_of};
 ghost use Rattle.fd_site.specs.Fault.{Rose};
 ghost use Rattle.fd_site.specs.Name.{is_good_name};
 ghost use Rattle.fd_mini.specs.Places.{places_of};
-ghost use Rattle.fd_mini.specs.Read.{header_in};
 ghost use Rattle.fd_vmcore.specs.Cause.{OnSiteFault};
 ghost use Rattle.fd_vmcore.specs.Parts.{HasLength};
-ghost use Rattle.fd_vmcore.specs.Sections.{IsOpening, long_enough, bad_range, by_ranges, opened, offset_of_bit, opened_file, page_offset, pages_end};
+ghost use Rattle.fd_vmcore.specs.Sections.{IsOpening, bad_range, by_ranges, long_enough, offset_of_bit, opened_file, page_offset, pages_end};
 
 use crate::open::OpenFault;
 use crate::parts::{read_avail, read_bitmap};

@@ -45,9 +45,6 @@ mark_dumped_tables-requires g c =
 pub returns : goal.returns
 returns g c =
     let new = fresh c.bits.result c.args.avail.now c.new.result c.map_err.result c.in_ok-map.map _ c.bits.ensures.count c.map_err.ensures.variant c.map_err.ensures.cases c.in_ok-map.was c.new.ensures in
-    let w = c.windows-windows.result in
-    let pages = c.args.avail.now in
-    let m = c.args.image.now in
     c.mark_dumped_tables.ensures.marks
     ∙ ap (marked c.windows-windows.result (λ page. dumps_last_tables c.args.image.now.arch && is_last_table c.args.image.now page) c.args.avail.now)
     (c.mark_mapped.ensures.marks

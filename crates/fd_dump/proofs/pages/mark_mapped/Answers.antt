@@ -13,8 +13,6 @@ leaves-leaf-items-requires g c =
     let levels = tall_of _ _ _ c.requires.serves.level_count c.requires.serves.heights in
     let window = window_divided c.args.image.now c.root.ensures.valid in
     let aligned : c.root.result % 4096 ≡ 0 = ap (λ root. root % 4096) c.root.ensures.value ∙ root_is_aligned c.args.image.now c.root.ensures.valid in
-    let same_base = ap (λ w. w.kernbase) c.requires.windows in
-    let same_span = ap (λ w. w.kernspan) c.requires.windows in
     let end : c.args.windows.now.kernbase + c.args.windows.now.kernspan ≤ 2 ^ 64 = rw c.requires.windows window.end in
     (lit< tt, (aligned, (levels.some_levels, (levels.most_levels, end))))
 

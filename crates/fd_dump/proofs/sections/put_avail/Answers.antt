@@ -8,7 +8,6 @@ use Rattle.fd_dump.proofs.sections.put_avail.Goals as goal
 
 pub returns : goal.returns
 returns c =
-    let size = 16 * length c.args.pairs.now + 16 in
     on_ok c.put_fill.result
     (λ after. appended c.args.out.now.items (avail_bytes c.args.pairs.now) (replicate (rounded_up (16 * length c.args.pairs.now + 16) - (16 * length c.args.pairs.now + 16)) 0)
     c.put_fill.new.out.items c.put_ranges.new.out.items (filled (avail_bytes c.args.pairs.now)) c.in_ok-put_ranges.ensures after

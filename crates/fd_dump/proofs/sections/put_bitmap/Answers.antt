@@ -10,7 +10,6 @@ use Rattle.fd_dump.proofs.sections.put_bitmap.Goals as goal
 
 pub returns : goal.returns
 returns c =
-    let bytes = bitmap_bytes c.args.map.now in
     let size : length (bitmap_bytes c.args.map.now) ≡ c.div_ceil.result =
     length-map-range_with_len (byte_at c.args.map.now) 0 (div_ceil (length c.args.map.now) 8) ∙ sym (c.div_ceil.ensures ∙ ap (λ n. div_ceil n 8) c.requires) in
     on_ok c.put_fill.result

@@ -1,5 +1,4 @@
-use Rattle.std.proofs.Common.{ℕ, ◌*◌, ◌∙◌, List, sym, ap, subst, arith}
-use Rattle.fd_bitmap.specs.Pages.{consecutive, pages_of}
+use Rattle.std.proofs.Common.{ℕ, ◌*◌, List, sym, subst, arith}
 use Rattle.fd_vmcore.specs.Kept.{AreBelow}
 use Rattle.fd_vmcore.specs.Parts.{EndBelow}
 use Rattle.fd_vmcore.proofs.Below.{consecutive_below, pages_below}
