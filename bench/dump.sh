@@ -7,6 +7,7 @@ top=$(cd "$(dirname "$0")/.." && pwd)
 runs=${1:-20}
 folder=$(mktemp -d)
 trap 'rm -rf "$folder"' EXIT
+. "$top/bench/timing.sh"
 
 length=$(((1 << 26) + 5 * 4096))
 "$top/bench/image.sh" 16384 >"$folder/big.img"
@@ -18,27 +19,4 @@ truncate -s "$length" "$folder/copy"
 ours=("$top/crates/fd_tool/out/fd_tool" "$folder" 512 dump big.img)
 theirs=(dd "if=$folder/dumpdev" "of=$folder/copy" bs=4096 "count=$((length / 4096))" conv=notrunc status=none)
 
-milliseconds() {
-    python3 - "$runs" "$@" <<'PY'
-import subprocess, sys, time
-
-runs, command = int(sys.argv[1]), sys.argv[2:]
-times = []
-for _ in range(runs):
-    begin = time.perf_counter()
-    subprocess.run(command, stdout=subprocess.DEVNULL, check=True)
-    times.append(time.perf_counter() - begin)
-print(f"{min(times) * 1000:.2f}")
-PY
-}
-
-kibibytes() {
-    /usr/bin/time -f %M -o "$folder/peak" "$@" >/dev/null
-    cat "$folder/peak"
-}
-
-our_time=$(milliseconds "${ours[@]}") their_time=$(milliseconds "${theirs[@]}")
-our_peak=$(kibibytes "${ours[@]}") their_peak=$(kibibytes "${theirs[@]}")
-echo "dump   $our_time ms  $our_peak KiB"
-echo "dd     $their_time ms  $their_peak KiB"
-awk "BEGIN { printf \"ratio  %.2f     %.2f\n\", $our_time / $their_time, $our_peak / $their_peak }"
+compare dump dd

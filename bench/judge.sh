@@ -7,6 +7,7 @@ top=$(cd "$(dirname "$0")/.." && pwd)
 runs=${1:-20}
 folder=$(mktemp -d)
 trap 'rm -rf "$folder"' EXIT
+. "$top/bench/timing.sh"
 
 # The stored partition's two headers, before and behind a dump of 512 bytes, at the end of 1 TiB.
 small=$top/crates/fd_tool/data/dumpdev
@@ -19,27 +20,4 @@ dd if="$small" of="$folder/dumpdev" bs=512 skip=130 seek=$((sectors - 1)) count=
 ours=("$top/crates/fd_tool/out/fd_tool" "$folder" 512 savecore -C)
 theirs=(dd "if=$folder/dumpdev" of=/dev/null bs=512 "skip=$((sectors - 3))" count=2 status=none)
 
-milliseconds() {
-    python3 - "$runs" "$@" <<'PY'
-import subprocess, sys, time
-
-runs, command = int(sys.argv[1]), sys.argv[2:]
-times = []
-for _ in range(runs):
-    begin = time.perf_counter()
-    subprocess.run(command, stdout=subprocess.DEVNULL, check=True)
-    times.append(time.perf_counter() - begin)
-print(f"{min(times) * 1000:.2f}")
-PY
-}
-
-kibibytes() {
-    /usr/bin/time -f %M -o "$folder/peak" "$@" >/dev/null
-    cat "$folder/peak"
-}
-
-our_time=$(milliseconds "${ours[@]}") their_time=$(milliseconds "${theirs[@]}")
-our_peak=$(kibibytes "${ours[@]}") their_peak=$(kibibytes "${theirs[@]}")
-echo "savecore -C  $our_time ms  $our_peak KiB"
-echo "dd           $their_time ms  $their_peak KiB"
-awk "BEGIN { printf \"ratio        %.2f     %.2f\n\", $our_time / $their_time, $our_peak / $their_peak }"
+compare 'savecore -C' dd
