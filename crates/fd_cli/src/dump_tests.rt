@@ -2,7 +2,7 @@
 
 use crate::image_files::{amd64_image, riscv_image};
 use crate::tests::{check, failing_partition};
-use fd_fake::MemSite;
+use fd_fake::{MemSite, StopSite};
 use fd_site::Site;
 use std::alloc::Global;
 use std::process::Abort;
@@ -160,4 +160,43 @@ fn a_dump_of_which_any_call_fails_is_no_dump(rt: HostRuntime) -> Result<(), Fail
         0,
         "dumped 32768\n",
     )
+}
+
+#[test]
+fn a_dump_stopped_after_any_sector_is_no_dump(rt: HostRuntime) -> Result<(), Fail> {
+    let alloc = rt.alloc();
+    for sectors in 0..67 {
+        let image = riscv_image(alloc)?;
+        let mut site = with_image(alloc, 131072, Vec::new(alloc), image)?;
+        let mut stop = StopSite::new(&mut site, sectors);
+        if sectors < 66 {
+            check(&rt, alloc, &mut stop, &["dump", "a.img"], 74, "")?;
+            check(
+                &rt,
+                alloc,
+                &mut site,
+                &["savecore", "-C"],
+                1,
+                "refused 1: no dump\n",
+            )?;
+        } else {
+            check(
+                &rt,
+                alloc,
+                &mut stop,
+                &["dump", "a.img"],
+                0,
+                "dumped 32768\n",
+            )?;
+            check(
+                &rt,
+                alloc,
+                &mut site,
+                &["savecore", "-C"],
+                0,
+                "dump 32768\n",
+            )?;
+        }
+    }
+    Ok(())
 }

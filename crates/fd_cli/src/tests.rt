@@ -5,19 +5,16 @@ ghost use Rattle.fd_kdh.specs.Header.{FitsFields};
 
 use super::{Word, crashway};
 use fd_bytes::{Arch, Label};
-use fd_fake::{MemSink, MemSite, NoMemory, StopSite};
+use fd_fake::{MemSink, MemSite, NoMemory};
 use fd_kdh::{Header, TEXT_MAGIC, encode};
-use fd_part::{good_partition, write_dump};
-use fd_site::{NoNet, Site, SlicePieces};
+use fd_site::{NoNet, Site};
 use std::alloc::Global;
 use std::process::Abort;
 use std::test::Fail;
 
 // The header of a dump of 32768 bytes of a riscv machine.
 fn header(block: u32) -> Header
-    ensures labels { FitsFields result }
-    ensures length { (result.dumplength ≡ 32768) × (result.dumpextent ≡ 32768) }
-    ensures block { result.blocksize ≡ block }
+    ensures { FitsFields result }
 {
     Header {
         architecture: Label::cut(Arch::Riscv.name()),
@@ -64,10 +61,10 @@ fn with_headers(alloc: Global, trailing: &[u8; 512], leading: &[u8; 512]) -> Res
 }
 
 // Runs the words over the site, and compares the status and the text.
-pub(crate) fn check(
+pub(crate) fn check<S: Site>(
     rt: &impl Abort,
     alloc: Global,
-    site: &mut MemSite,
+    site: &mut S,
     words: &[&str],
     status: u8,
     text: &str,
@@ -275,28 +272,5 @@ fn a_fault_of_the_outside_is_no_verdict(rt: HostRuntime) -> Result<(), Fail> {
     let ended = crashway(alloc, &words, &mut site, &mut link, &mut ports, &mut out);
     assert_eq!(rt; ended, 74);
     assert_eq!(rt; out.bytes(), b"".as_slice());
-    Ok(())
-}
-
-#[test]
-fn a_dump_stopped_after_any_sector_is_refused_or_whole(rt: HostRuntime) -> Result<(), Fail> {
-    let alloc = rt.alloc();
-    let body = [7; 32768];
-    let header = header(512);
-    for sectors in 0..67 {
-        let mut site = partition(alloc, 131072, 512)?;
-        assert!(rt; good_partition(site.size(), site.block()));
-        assert_eq!(rt; site.block(), 512);
-        let mut stop = StopSite::new(&mut site, sectors);
-        let mut pieces = SlicePieces::new(&body);
-        let wrote = write_dump(&mut stop, &mut pieces, &header, None);
-        assert_eq!(rt; wrote.is_ok(), sectors == 66, "{sectors}");
-        let (status, line) = if sectors < 66 {
-            (1, "refused 1: no dump\n")
-        } else {
-            (0, "dump 32768\n")
-        };
-        check(&rt, alloc, &mut site, &["savecore", "-C"], status, line)?;
-    }
     Ok(())
 }
