@@ -1,4 +1,4 @@
-ghost use Rattle.std.specs.Prelude.{◌≡◌, ◌≤◌, ℕ, Err, length, IfOk, IsTrue};
+ghost use Rattle.std.specs.Prelude.{◌≡◌, ◌≤◌, ◌⊎◌, ℕ, Err, length, IfOk, IsTrue};
 ghost use Rattle.fd_site.specs.Fault.{Rose};
 ghost use Rattle.fd_site.specs.Name.{is_good_name};
 ghost use Rattle.fd_dump.specs.Minidump.{minidump_of};
@@ -56,6 +56,7 @@ fn write_plan<S: Site>(
     ensures answer { IfOk result (Replies (λ answer. answer ≡ room_answer (S.part_size site.old) (S.block_size site.old) (length (minidump_of image.now)))) }
     ensures entries { MayHaveBegun (S.told site.old) (S.told site.new) (S.part_size site.old) (S.block_size site.old) image.now }
     ensures dumped { IfOk result (λ reply. reply.status ≡ 0 → HasFinished (S.told site.old) (S.told site.new) (S.part_size site.old) (S.block_size site.old) image.now) }
+    ensures refused { IfOk result (λ reply. (reply.status ≡ 0) ⊎ (S.told site.new ≡ S.told site.old)) }
     ensures memory { OnNoMemory result (S.told site.new ≡ S.told site.old) }
     ensures size { S.part_size site.new ≡ S.part_size site.old }
     ensures block { S.block_size site.new ≡ S.block_size site.old }
@@ -90,6 +91,7 @@ pub(crate) fn dump_image<S: Site>(
     ensures answer { IfOk result (Replies (OnGood (S.part_size site.old) (S.block_size site.old) (IsDumpAnswer (S.told site.old) (S.part_size site.old) (S.block_size site.old) name.now))) }
     ensures entries { MayHaveStarted (S.told site.old) (S.told site.new) (S.part_size site.old) (S.block_size site.old) name.now }
     ensures dumped { IfOk result (λ reply. reply.status ≡ 0 → HasDumped (S.told site.old) (S.told site.new) (S.part_size site.old) (S.block_size site.old) name.now) }
+    ensures refused { IfOk result (λ reply. (reply.status ≡ 0) ⊎ (S.told site.new ≡ S.told site.old)) }
     ensures memory { OnNoMemory result (S.told site.new ≡ S.told site.old) }
     ensures size { S.part_size site.new ≡ S.part_size site.old }
     ensures block { S.block_size site.new ≡ S.block_size site.old }

@@ -1,21 +1,18 @@
 //! Reads of kernel memory out of saved minidumps, over partitions and files in memory.
 
 use crate::image_files::{amd64_image, riscv_image};
-use crate::tests::{check, partition};
+use crate::tests::{check, partition, read_sectors};
 use fd_fake::MemSite;
-use fd_site::Site;
 use std::alloc::Global;
 use std::process::Abort;
 use std::test::Fail;
 
-/// Where the dump stands on a partition of 131072 bytes with blocks of 512.
-const END: u64 = 131072 - 512;
-
-// The minidump of an image, as `dump` writes it to a partition.
+// The minidump of an image, as `dump` writes it to this place of a partition of 131072 bytes with blocks of 512.
 fn minidump(
     rt: &impl Abort,
     alloc: Global,
     image: Vec<u8>,
+    at: u64,
     length: usize,
 ) -> Result<Vec<u8>, Fail> {
     let mut site = partition(alloc, 131072, 512)?;
@@ -23,7 +20,7 @@ fn minidump(
     let line = format!(in alloc; "dumped {length}\n")?;
     check(rt, alloc, &mut site, &["dump", "a.img"], 0, line.as_str())?;
     let mut bytes = vec![in alloc; 0u8; length]?;
-    assert!(rt; site.read_part(END - length as u64, &mut bytes).is_ok());
+    read_sectors(rt, &mut site, at, &mut bytes);
     Ok(bytes)
 }
 
@@ -51,7 +48,7 @@ fn reads(
 #[test]
 fn kernel_memory_of_riscv_is_read(rt: HostRuntime) -> Result<(), Fail> {
     let alloc = rt.alloc();
-    let vmcore = minidump(&rt, alloc, riscv_image(alloc)?, 32768)?;
+    let vmcore = minidump(&rt, alloc, riscv_image(alloc)?, 97792, 32768)?;
     assert_eq!(rt;
         &vmcore[24..40],
         b"\x02\0\0\0\x0c\0\0\0\0\x10\0\0\0\x10\0\0".as_slice()
@@ -102,7 +99,7 @@ fn kernel_memory_of_riscv_is_read(rt: HostRuntime) -> Result<(), Fail> {
 #[test]
 fn kernel_memory_of_amd64_is_read(rt: HostRuntime) -> Result<(), Fail> {
     let alloc = rt.alloc();
-    let vmcore = minidump(&rt, alloc, amd64_image(alloc)?, 45056)?;
+    let vmcore = minidump(&rt, alloc, amd64_image(alloc)?, 85504, 45056)?;
     assert_eq!(rt; vmcore[8192], 0xf9);
     let mut site = with_vmcore(alloc, vmcore)?;
     reads(
@@ -190,7 +187,7 @@ fn refuses(
 // A vmcore with another number in four bytes at a place.
 fn with_u32(alloc: Global, vmcore: &[u8], at: usize, value: u32) -> Result<Vec<u8>, Fail> {
     let mut changed = vmcore.to_vec(alloc)?;
-    if at + 4 <= changed.len() {
+    if changed.len() >= 4 && at <= changed.len() - 4 {
         changed[at..at + 4].copy_from_slice(&value.to_le_bytes());
     }
     Ok(changed)
@@ -199,7 +196,7 @@ fn with_u32(alloc: Global, vmcore: &[u8], at: usize, value: u32) -> Result<Vec<u
 #[test]
 fn a_file_that_is_no_vmcore_is_refused_by_name(rt: HostRuntime) -> Result<(), Fail> {
     let alloc = rt.alloc();
-    let vmcore = minidump(&rt, alloc, riscv_image(alloc)?, 32768)?;
+    let vmcore = minidump(&rt, alloc, riscv_image(alloc)?, 97792, 32768)?;
     let short = vmcore[..32767].to_vec(alloc)?;
     refuses(
         &rt,

@@ -65,6 +65,7 @@ fn work<S: Site>(alloc: Global, words: &[Word], site: &mut S) -> Result<Reply, T
     ensures answer { IfOk result (Replies (IsAnswer (S.told site.old) (S.part_size site.old) (S.block_size site.old) (command_of words.now))) }
     ensures entries { MayHaveAdded (S.told site.old) (S.told site.new) (S.part_size site.old) (S.block_size site.old) (command_of words.now) }
     ensures dumped { IfOk result (λ reply. reply.status ≡ 0 → IfDump (command_of words.now) (HasDumped (S.told site.old) (S.told site.new) (S.part_size site.old) (S.block_size site.old))) }
+    ensures refused { IfOk result (λ reply. (reply.status ≡ 0) ⊎ (S.told site.new ≡ S.told site.old)) }
     ensures memory { OnNoMemory result (S.told site.new ≡ S.told site.old) }
     ensures size { S.part_size site.new ≡ S.part_size site.old }
     ensures block { S.block_size site.new ≡ S.block_size site.old }
@@ -99,7 +100,7 @@ fn carry_out<S: Site, L: Link, P: Ports, O: Sink>(
 ) -> u8
     ensures ends { Ends (IsAnswer (S.told site.old) (S.part_size site.old) (S.block_size site.old) (command_of words.now)) result (O.told out.old) (O.told out.new) }
     ensures fault { result ≡ 74 → Rose (S.faults site.old) (S.faults site.new) ⊎ Rose (O.faults out.old) (O.faults out.new) }
-    ensures memory { result ≡ 71 → S.told site.new ≡ S.told site.old }
+    ensures untouched { (result ≡ 0) ⊎ ((result ≡ 74) ⊎ (S.told site.new ≡ S.told site.old)) }
     ensures entries { MayHaveAdded (S.told site.old) (S.told site.new) (S.part_size site.old) (S.block_size site.old) (command_of words.now) }
     ensures dumped { result ≡ 0 → IfDump (command_of words.now) (HasDumped (S.told site.old) (S.told site.new) (S.part_size site.old) (S.block_size site.old)) }
     ensures size { S.part_size site.new ≡ S.part_size site.old }
@@ -125,7 +126,7 @@ fn carry_out<S: Site, L: Link, P: Ports, O: Sink>(
 /// a saved minidump at kernel addresses, 16 a line; an address that has no byte is refused with 1. A partition that
 /// can't hold a dump, a file that is no image or no minidump, and a partition without room are refused with 65, words
 /// that are no command with 64. Status 74 says that the site or the sink failed, and a part of the text may then have
-/// been printed; status 71 that no memory was found, before anything was written.
+/// been printed; status 71 that no memory was found. Only with 0 and 74 something was written.
 pub fn crashway<S: Site, L: Link, P: Ports, O: Sink>(
     alloc: Global,
     words: &[Word],
@@ -136,7 +137,7 @@ pub fn crashway<S: Site, L: Link, P: Ports, O: Sink>(
 ) -> u8
     ensures ends { Ends (IsAnswer (S.told site.old) (S.part_size site.old) (S.block_size site.old) (command_of words.now)) result (O.told out.old) (O.told out.new) }
     ensures fault { result ≡ 74 → Rose (S.faults site.old) (S.faults site.new) ⊎ Rose (O.faults out.old) (O.faults out.new) }
-    ensures memory { result ≡ 71 → S.told site.new ≡ S.told site.old }
+    ensures untouched { (result ≡ 0) ⊎ ((result ≡ 74) ⊎ (S.told site.new ≡ S.told site.old)) }
     ensures entries { MayHaveAdded (S.told site.old) (S.told site.new) (S.part_size site.old) (S.block_size site.old) (command_of words.now) }
     ensures dumped { result ≡ 0 → IfDump (command_of words.now) (HasDumped (S.told site.old) (S.told site.new) (S.part_size site.old) (S.block_size site.old)) }
     ensures found { result ≡ 0 → IfDump (command_of words.now) (λ name. IsFound (S.told site.old) (S.told site.new) name (S.block_size site.old)) }
