@@ -2,3 +2,4 @@ pub mod Arch
 pub mod Field
 pub mod Label
 pub mod Number
+pub mod Profile

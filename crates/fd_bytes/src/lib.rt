@@ -1,6 +1,6 @@
 //! What the formats of FreeBSD kernel dumps are made of: numbers in fields of a buffer, in either
 //! byte order, texts in fields of a fixed size, numbers as they are spelled on a command line, and
-//! the architectures whose dumps are read and written.
+//! the architectures whose dumps are read and written, with the table of what differs between them.
 //!
 //! Numbers are moved by `byteorder`, and a text lies in an `arrayvec`. The names and versions of
 //! the architectures are those of `sys/kerneldump.h` and `MACHINE_ARCH`.
@@ -10,6 +10,7 @@ mod arch;
 mod field;
 mod label;
 mod number;
+mod profile;
 #[cfg(test)]
 mod tests;
 
@@ -19,3 +20,4 @@ pub use field::{
 };
 pub use label::Label;
 pub use number::{BadNumber, read_number};
+pub use profile::Profile;

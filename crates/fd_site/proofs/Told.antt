@@ -15,6 +15,10 @@ pub with_entries-nil : (told : Option Contents) → told ≡ with_entries told [
 with_entries-nil None = refl
 with_entries-nil (Some c) = ap (λ l. Some (record c { journal = l })) (sym (append-nil c.journal))
 
+pub grown-append : {A : Type 0} (old : Option (List A)) (xs ys : List A) → grown (grown old xs) ys ≡ grown old (xs ++ ys)
+grown-append None xs ys = refl
+grown-append (Some zs) xs ys = ap (λ l. Some l) (append_assoc zs xs ys)
+
 -- more after more
 pub with_entries-append : (told : Option Contents) (es fs : List Entry) → with_entries (with_entries told es) fs ≡ with_entries told (es ++ fs)
 with_entries-append None es fs = refl

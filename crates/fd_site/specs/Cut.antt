@@ -1,6 +1,6 @@
 -- What a machine that stops leaves of a site: the entries before one are done, and of that one, where it is a
 -- write to the partition, any of the sectors that it kept. Sectors of 512 bytes are atomic.
-use Rattle.std.specs.Prelude.{◌≡◌, ℕ, zero, suc, Bool, true, false, ◌&&◌, not, IsTrue, List, [], ◌∷◌, take, drop, Option}
+use Rattle.std.specs.Prelude.{◌≡◌, ℕ, ◌≤◌, zero, suc, Bool, true, false, ◌&&◌, not, IsTrue, List, [], ◌∷◌, length, take, drop, Option, Some}
 use Rattle.fd_site.specs.Journal.{Entry, Part, Create, Write, Sync, Spoiled, written, part_step, file_after, is_on, stable_after}
 use Rattle.fd_site.specs.Contents.{Contents}
 
@@ -38,3 +38,19 @@ stable_at q journal k = stable_after q true (take k journal) && not (is_on_first
 abbrev pub IsCutDirectory : Contents → ℕ → (List ℕ → Option (List ℕ)) → Type 0
 IsCutDirectory c k files =
     (q : List ℕ) → IsTrue (stable_at q c.journal k) → files q ≡ file_after q (c.base_file q) (take k c.journal)
+
+-- what stands on disk: the partition's bytes, and each name's file
+pub record Disk : Type 0 where
+  pub part : List ℕ
+  pub files : List ℕ → Option (List ℕ)
+
+-- what a machine may leave that stops after the first k entries of a journal, with these sectors of the next one
+pub record IsCut (c : Contents) (k : ℕ) (these : List Bool) (disk : Disk) : Type 0 where
+  pub partition : disk.part ≡ part_cut c.base_part c.journal k these
+  pub directory : IsCutDirectory c k disk.files
+
+-- P of what a site told before a call, and of each disk that a machine may leave that stops in the call
+abbrev pub EachCutOf : (old new : Option Contents) → (Contents → Disk → Type 0) → Type 0
+EachCutOf old new P =
+    (was now : Contents) → old ≡ Some was → new ≡ Some now
+    → (k : ℕ) (these : List Bool) (disk : Disk) → length was.journal ≤ k → IsCut now k these disk → P was disk

@@ -5,6 +5,7 @@
 //! leaves a cut.
 #![tactic(auto)]
 
+mod fault;
 mod link;
 mod name;
 mod no_net;
@@ -14,11 +15,12 @@ mod sink;
 mod site;
 mod slice_pieces;
 
-pub use link::Link;
+pub use fault::{Failed, SiteFault};
+pub use link::{Link, Polled};
 pub use name::good_name;
 pub use no_net::NoNet;
 pub use pieces::Pieces;
-pub use ports::{Peer, Ports};
+pub use ports::{Peer, Ports, Taken};
 pub use sink::Sink;
-pub use site::{Failed, Site, SiteFault};
+pub use site::Site;
 pub use slice_pieces::SlicePieces;

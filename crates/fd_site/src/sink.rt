@@ -1,21 +1,21 @@
-ghost use Rattle.std.specs.Prelude.{◌≡◌, ℕ, ◌≤◌, List, take, Option, OnOk, OnErr};
-ghost use Rattle.fd_site.specs.Trace.{grown};
-ghost use Rattle.fd_site.specs.Fault.{Rose};
+//! Where printed text goes.
 
-use crate::site::Failed;
+ghost use Rattle.std.specs.Prelude.{◌≡◌, ℕ, ◌≤◌, take, OnErr, OnOk};
+ghost use Rattle.fd_site.specs.Fault.{Rose};
+ghost use Rattle.fd_site.specs.Seen.{Watched};
+ghost use Rattle.fd_site.specs.Trace.{grown};
+
+use crate::fault::Failed;
 
 /// Where printed text goes.
 pub trait Sink {
-    /// The bytes so far, where they are told.
-    ghost told: { Self → Option (List ℕ) };
-
-    /// How often a call has failed.
-    ghost faults: { Self → ℕ };
+    /// What contracts see of the sink: the bytes so far, where it tells them, and how often a call has failed.
+    ghost seen: { Self → Watched ℕ };
 
     /// Appends the bytes, or after an error some of the first of them.
     fn put(&mut self, bytes: &[u8]) -> Result<(), Failed>
-        ensures ok { OnOk result (told self.new ≡ grown (told self.old) bytes.now) }
-        ensures err { OnErr result ((n : ℕ) × (told self.new ≡ grown (told self.old) (take n bytes.now))) }
-        ensures count { faults self.old ≤ faults self.new }
-        ensures cause { OnErr result (Rose (faults self.old) (faults self.new)) };
+        ensures ok { OnOk result ((seen self.new).told ≡ grown (seen self.old).told bytes.now) }
+        ensures err { OnErr result ((n : ℕ) × ((seen self.new).told ≡ grown (seen self.old).told (take n bytes.now))) }
+        ensures count { (seen self.old).faults ≤ (seen self.new).faults }
+        ensures cause { OnErr result (Rose (seen self.old).faults (seen self.new).faults) };
 }
