@@ -1,5 +1,6 @@
 mod Archs
 pub mod Fields
+pub mod Hex
 mod Numerals
 pub mod Texts
 mod Vectors

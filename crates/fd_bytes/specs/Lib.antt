@@ -2,4 +2,5 @@ pub mod Arch
 pub mod Field
 pub mod Label
 pub mod Number
+pub mod Printed
 pub mod Profile
