@@ -2,6 +2,9 @@ pub mod Calls
 pub mod Directory
 pub mod Disk
 pub mod Entries
+pub mod MemLink
+pub mod MemPorts
 pub mod MemSink
 pub mod MemSite
+pub mod Played
 pub mod StopSite

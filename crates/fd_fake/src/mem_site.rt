@@ -57,6 +57,13 @@ impl MemSite {
         self.calls.fail_next();
     }
 
+    /// How many calls that can answer `Failed` were made, failed ones too.
+    pub fn calls(&self) -> u64
+        ensures { result ≡ self.now.calls.made }
+    {
+        self.calls.made()
+    }
+
     /// How many calls have failed for want of memory.
     pub fn starved(&self) -> u64
         ensures { result ≡ self.now.calls.starved }
