@@ -1,6 +1,6 @@
 //! The valid image, with its words and pages.
-ghost use Rattle.std.specs.Prelude.{◌≡◌, ◌%◌, Some, None, IsTrue, IfSome, IfOk, IfErr, find, option_copied};
-ghost use Rattle.fd_image.specs.Image.{broken_rule, is_whole_pages, IsValid};
+ghost use Rattle.std.specs.Prelude.{◌≡◌, ◌⊎◌, ◌%◌, Some, None, IsTrue, IfSome, IfOk, IfErr, find, option_copied};
+ghost use Rattle.fd_image.specs.Image.{broken_rule, levels_of, is_whole_pages, IsValid};
 ghost use Rattle.fd_image.specs.Physical.{has_address, page_in, page_of, segment_of, word_in};
 
 use crate::memory::Memory;
@@ -48,6 +48,15 @@ impl Image {
         ensures valid { IsValid self.now }
     {
         self.parts.arch
+    }
+
+    /// How many levels the page tables have.
+    pub fn levels(&self) -> u32
+        ensures value { result ≡ levels_of self.now }
+        ensures few { (result ≡ 3) ⊎ (result ≡ 4) }
+        ensures valid { IsValid self.now }
+    {
+        self.parts.arch.profile().levels
     }
 
     /// The segments of physical memory, in the order of their addresses.
