@@ -1,4 +1,7 @@
+pub mod Calls
+pub mod Directory
 pub mod Disk
 pub mod Entries
-pub mod Memory
-pub mod Stop
+pub mod MemSink
+pub mod MemSite
+pub mod StopSite

@@ -8,12 +8,12 @@ mod calls;
 mod directory;
 mod disk;
 mod entry;
-mod memory;
-mod sink;
-mod stop;
+mod mem_sink;
+mod mem_site;
+mod stop_site;
 #[cfg(test)]
 mod tests;
 
-pub use memory::{MemSite, NoMemory};
-pub use sink::MemSink;
-pub use stop::StopSite;
+pub use mem_sink::MemSink;
+pub use mem_site::MemSite;
+pub use stop_site::StopSite;
