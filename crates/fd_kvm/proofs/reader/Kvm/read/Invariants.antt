@@ -1,5 +1,6 @@
 use Rattle.std.proofs.Common.{◌≡◌, ℕ, ◌≤◌, ◌-◌, length, List, Some}
 use Rattle.fd_site.specs.Contents.{Told, file_of}
+use Rattle.fd_site.specs.Seen.{Untouched}
 use Rattle.fd_kvm.specs.Answer.{byte_in}
 use Rattle.fd_kvm.specs.Runs.{IsFront}
 use Rattle.fd_kvm.proofs.reader.Kvm.read.Given as goal
@@ -7,11 +8,8 @@ use Rattle.fd_kvm.proofs.reader.Kvm.read.Given as goal
 abbrev pub invariant-loop-at : goal.invariant-loop-at
 invariant-loop-at g l = record {
   inside : l.at ≤ length l.out;
-  front : Told (g.S.Site.told l.fn.site) (λ c. (f : List ℕ) → file_of c l.self.name ≡ Some f → IsFront (byte_in f l.self.sections) l.va l.fn.out l.out l.at);
-  same : g.S.Site.told l.site ≡ g.S.Site.told l.fn.site;
-  size : g.S.Site.part_size l.site ≡ g.S.Site.part_size l.fn.site;
-  block : g.S.Site.block_size l.site ≡ g.S.Site.block_size l.fn.site;
-  count : g.S.Site.faults l.fn.site ≤ g.S.Site.faults l.site;
+  front : Told (g.S.Site.seen l.fn.site).told (λ c. (f : List ℕ) → file_of c l.self.name ≡ Some f → IsFront (byte_in f l.self.sections) l.va l.fn.out l.out l.at);
+  untouched : Untouched (g.S.Site.seen l.fn.site) (g.S.Site.seen l.site);
 }
 
 abbrev pub decreases-loop-at : goal.decreases-loop-at
