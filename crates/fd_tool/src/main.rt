@@ -1,100 +1,109 @@
 //! The program: `crashway DIRECTORY BLOCK WORDS..` does what the words ask for, over the directory's file `dumpdev` as
-//! the partition, with blocks of BLOCK bytes. Its text goes to standard output, its status is that of `fd_cli`.
+//! the partition, with blocks of BLOCK bytes. Its text goes to standard output, its status is that of `fd_cli`; with
+//! 71 and 74 a line on standard error says why.
 #![tactic(auto)]
 
-mod directory;
-mod terminal;
+ghost use Rattle.std.specs.Prelude.{◌≡◌, ◌≢◌};
+ghost use Rattle.std.specs.Process.{exit_status};
+ghost use Rattle.std_io.specs.IoError.{error_kind};
+ghost use Rattle.fd_site.specs.Fault.{Rose};
+ghost use Rattle.fd_cli.specs.Ending.{Ends};
+ghost use Rattle.fd_cli.specs.declared.refusal.Refusal.TheVariants.{NotCommand};
+ghost use Rattle.fd_cli.specs.declared.answer.Answer.TheVariants.{Refused};
 
-use directory::DirSite;
-use fd_bytes::read_number;
-use fd_cli::{Refusal, Word, crashway, status};
-use fd_site::NoNet;
-use std::alloc::AllocError;
+use fd_cli::{Invocation, Refusal, crashway, read_invocation, status};
+use fd_os::{DirSite, StdSink, hold_standard, say};
+use fd_site::{NoNet, Sink, Site};
+use std::alloc::Global;
+use std::env;
 use std::fs::File;
+use std::io;
+use std::io::ErrorKind;
 use std::process::ExitCode;
 use std::rt::{Env, Files};
-use std::{env, io};
-use terminal::Terminal;
 
-/// What the words before those of the command say: where the files are, and the size of a block.
-#[derive(Drop)]
-struct Place {
-    directory: String,
-    block: u32,
-}
-
-/// Why the program ends before its work.
-enum Early {
-    NotCommand,
-    NoMemory,
-    Failed,
-}
-
-impl From<io::Error> for Early {
-    fn from(e: io::Error) -> Early {
-        match e.kind() {
-            io::ErrorKind::OutOfMemory => Early::NoMemory,
-            // A word that isn't UTF-8.
-            io::ErrorKind::InvalidData => Early::NotCommand,
-            _ => Early::Failed,
-        }
-    }
-}
-
-impl From<AllocError> for Early {
-    fn from(_: AllocError) -> Early {
-        Early::NoMemory
-    }
-}
-
-// The size of a block, as its word spells it.
-fn read_block(word: &str) -> Result<u32, Early> {
-    let number = match read_number(word.as_bytes()) {
-        Ok(number) => number,
-        Err(_) => return Err(Early::NotCommand),
+// What the program's words name. Words of which one isn't UTF-8 name nothing.
+fn invocation<R: Env + AllocGlobal>(rt: &R) -> io::Result<Option<Invocation>> {
+    let args = match env::args(rt) {
+        Ok(args) => args,
+        Err(why) if why.kind() == ErrorKind::InvalidData => return Ok(None),
+        Err(why) => return Err(why),
     };
-    u32::try_from(number).map_err(|_| Early::NotCommand)
-}
-
-// The program's words: its place, and those of the command.
-fn read_words<R: Env + AllocGlobal>(rt: &R) -> Result<(Place, Vec<Word>), Early> {
-    let mut args = env::args(rt)?;
-    let _program = args.next();
-    let (Some(directory), Some(block)) = (args.next(), args.next()) else {
-        return Err(Early::NotCommand);
-    };
-    let block = read_block(block.as_str())?;
     let mut words = Vec::new(rt.alloc());
     for word in args {
-        words.push(Word::new(word)).map_err(AllocError::from)?;
+        words.push(word)?;
     }
-    Ok((Place { directory, block }, words))
+    Ok(read_invocation(rt.alloc(), words)?)
 }
 
-fn run<R: Env + Files<File = File> + Print + AllocGlobal>(rt: &R) -> Result<u8, Early> {
-    let (place, words) = read_words(rt)?;
-    let mut site = DirSite::open(rt, place.directory.as_str(), place.block)?;
+// The status with which the program ends before its command.
+fn early_status<R: Eprint + AllocGlobal>(rt: &R, what: &str, why: io::Error) -> u8
+    ensures memory { error_kind why ≡ ErrorKind.OutOfMemory → result ≡ 71 }
+    ensures fault { error_kind why ≢ ErrorKind.OutOfMemory → result ≡ 74 }
+{
+    if why.kind() == ErrorKind::OutOfMemory {
+        return status::MEMORY;
+    }
+    say(rt, what, why);
+    status::FAULT
+}
+
+// Refuses words that name no directory and block.
+fn refuse<O: Sink>(alloc: Global, out: &mut O) -> u8
+    ensures ends { Ends (λ answer. answer ≡ Refused NotCommand) result (O.seen out.old).told (O.seen out.new).told }
+    ensures cause { result ≡ 74 → Rose (O.seen out.old).faults (O.seen out.new).faults }
+{
+    let refusal = Refusal::NotCommand;
+    let text = match format!(in alloc; "{refusal}\n") {
+        Ok(text) => text,
+        Err(_) => return status::MEMORY,
+    };
+    match out.put(text.as_bytes()) {
+        Ok(()) => refusal.status(),
+        Err(_) => status::FAULT,
+    }
+}
+
+// Does what the invocation's words ask for.
+fn work<S: Site, O: Sink>(
+    alloc: Global,
+    invocation: &Invocation,
+    site: &mut S,
+    out: &mut O,
+) -> u8 {
     let mut link = NoNet::new();
     let mut ports = NoNet::new();
-    let mut out = Terminal::new(rt);
-    Ok(crashway(
-        rt.alloc(),
-        &words,
-        &mut site,
-        &mut link,
-        &mut ports,
-        &mut out,
-    ))
+    crashway(alloc, &invocation.words, site, &mut link, &mut ports, out)
+}
+
+fn run<R: Env + Files<File = File> + Print + Eprint + AllocGlobal>(rt: &R) -> u8 {
+    if let Err(why) = hold_standard(rt) {
+        return early_status(rt, "/dev/null", why);
+    }
+    let mut out = StdSink::new(rt);
+    let invocation = match invocation(rt) {
+        Ok(Some(invocation)) => invocation,
+        Ok(None) => return refuse(rt.alloc(), &mut out),
+        Err(why) => return early_status(rt, "words", why),
+    };
+    let mut site = match DirSite::open(rt, invocation.directory.as_str(), invocation.block) {
+        Ok(site) => site,
+        Err(why) => return early_status(rt, "dumpdev", why),
+    };
+    work(rt.alloc(), &invocation, &mut site, &mut out)
+}
+
+// What the program ends with. Want of memory is said here, faults where they come.
+fn exit_code<R: Eprint>(rt: &R, status: u8) -> ExitCode
+    ensures { exit_status result ≡ status }
+{
+    if status == status::MEMORY {
+        let _said = eprintln!(rt; "crashway: no memory");
+    }
+    ExitCode::from(status)
 }
 
 fn main(rt: HostRuntime) -> ExitCode {
-    ExitCode::from(match run(&rt) {
-        Ok(status) => status,
-        Err(Early::NoMemory) => status::MEMORY,
-        Err(Early::Failed) => status::FAULT,
-        Err(Early::NotCommand) => match rt.println(Refusal::NotCommand) {
-            Ok(()) => Refusal::NotCommand.status(),
-            Err(_) => status::FAULT,
-        },
-    })
+    let status = run(&rt);
+    exit_code(&rt, status)
 }

@@ -1,0 +1,18 @@
+//! The outside of the program over the real thing: a directory of files as a site, and standard output as a sink. They
+//! tell no contents, count each fault, and say the first on standard error: the trusted edge of the program. Beside
+//! them stands what has to be done before anything is opened.
+#![tactic(auto)]
+
+mod dir_site;
+mod fault;
+mod opened;
+mod partition;
+mod standard;
+mod std_sink;
+#[cfg(test)]
+mod tests;
+
+pub use dir_site::DirSite;
+pub use fault::say;
+pub use standard::hold_standard;
+pub use std_sink::StdSink;
