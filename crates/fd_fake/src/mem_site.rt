@@ -1,3 +1,5 @@
+//! A site in memory.
+
 ghost use Rattle.std.specs.Prelude.{◌≡◌, ◌⊎◌, ◌+◌, ◌≤◌, ◌↔◌, ◌++◌, [], ◌∷◌, ℕ, List, length, take, drop, true, Some, IfOk, IfSome, IsSomeAnd, IsSome, OnOk, OnErr, IsErr, IsTrue, replicate, slice_range, if◌then◌else◌};
 ghost use Rattle.std.specs.Option.{option_map};
 ghost use Rattle.std.specs.Str.{bytes_eq};
@@ -5,17 +7,17 @@ ghost use Rattle.fd_site.specs.Contents.{IsSectors, Told, file_of, whole_part};
 ghost use Rattle.fd_site.specs.Fault.{Rose};
 ghost use Rattle.fd_site.specs.Journal.{Create, Sync, Write};
 ghost use Rattle.fd_site.specs.Name.{is_good_name};
-ghost use Rattle.fd_fake.specs.Memory.{IsDue, IsFailedCall, after_call, after_fault, contents_of, file_in, file_now, no_calls, part_now, size_of_told, with_entry};
+ghost use Rattle.fd_site.specs.Seen.{Frame, Untouched};
+ghost use Rattle.fd_fake.specs.Calls.{IsDue, IsFailedCall, after_call, after_fault, no_calls};
+ghost use Rattle.fd_fake.specs.Directory.{file_in};
+ghost use Rattle.fd_fake.specs.Disk.{contents_of, file_now, part_now, size_of_told, with_entry};
+ghost use Rattle.fd_fake.specs.MemSite.{seen_of};
 
 use crate::calls::Calls;
 use crate::disk::Disk;
 use fd_site::{Failed, Site};
-use std::alloc::Global;
+use std::alloc::{AllocError, Global};
 use std::marker::Model;
-
-/// No memory was found.
-#[derive(Clone, Copy, Debug, PartialEq, Eq)]
-pub struct NoMemory;
 
 /// A site in memory: one partition and one directory of files. It tells all that it holds.
 #[derive(Drop)]
@@ -26,7 +28,7 @@ pub struct MemSite {
 }
 
 impl Model for MemSite {
-    ghost use Rattle.fd_fake.specs.Memory.{SiteInMemory};
+    ghost use Rattle.fd_fake.specs.MemSite.{SiteInMemory};
 
     ghost Value = { SiteInMemory };
 
@@ -36,19 +38,16 @@ impl Model for MemSite {
 impl MemSite {
     /// A partition of `size` zero bytes with blocks of `block` bytes, and no files. The calls that can answer
     /// `Failed` are numbered from 1; those whose number is in `fails` do, and leave everything as it was.
-    pub fn new(alloc: Global, size: u64, block: u32, fails: Vec<u64>) -> Result<MemSite, NoMemory>
+    pub fn new(alloc: Global, size: u64, block: u32, fails: Vec<u64>) -> Result<MemSite, AllocError>
         ensures disk { IfOk result (λ m. m.disk ≡ record { base_part = replicate size 0; base_files = []; journal = [] }) }
         ensures block { IfOk result (λ m. m.block ≡ block) }
         ensures calls { IfOk result (λ m. m.calls ≡ no_calls fails.items) }
     {
-        match Disk::new(alloc, size) {
-            Ok(disk) => Ok(MemSite {
-                disk,
-                block,
-                calls: Calls::new(fails),
-            }),
-            Err(_) => Err(NoMemory),
-        }
+        Ok(MemSite {
+            disk: Disk::new(alloc, size)?,
+            block,
+            calls: Calls::new(fails),
+        })
     }
 
     /// Makes the next call answer `Failed`.
@@ -56,6 +55,13 @@ impl MemSite {
         ensures { self.new ≡ record self.old { calls = record self.old.calls { next = true } } }
     {
         self.calls.fail_next();
+    }
+
+    /// How many calls that can answer `Failed` were made, failed ones too.
+    pub fn calls(&self) -> u64
+        ensures { result ≡ self.now.calls.made }
+    {
+        self.calls.made()
     }
 
     /// How many calls have failed for want of memory.
@@ -77,7 +83,7 @@ impl MemSite {
     }
 
     /// Puts the file into the directory, as if it had been there when it was made.
-    pub fn preset_file(&mut self, name: &str, bytes: Vec<u8>) -> Result<(), NoMemory>
+    pub fn preset_file(&mut self, name: &str, bytes: Vec<u8>) -> Result<(), AllocError>
         requires fresh { self.old.disk.journal ≡ [] }
         requires name { IsTrue (is_good_name name.now) }
         ensures ok { OnOk result ((q : List ℕ) → file_in self.new.disk.base_files q ≡ (if bytes_eq q name.now then Some bytes.items else file_in self.old.disk.base_files q)) }
@@ -87,21 +93,12 @@ impl MemSite {
         ensures block { self.new.block ≡ self.old.block }
         ensures calls { self.new.calls ≡ self.old.calls }
     {
-        match self.disk.preset_file(name, bytes) {
-            Ok(()) => Ok(()),
-            Err(_) => Err(NoMemory),
-        }
+        self.disk.preset_file(name, bytes)
     }
 }
 
 impl Site for MemSite {
-    ghost told = { λ m. Some (contents_of m.disk) };
-
-    ghost faults = { λ m. m.calls.faults };
-
-    ghost part_size = { λ m. length (part_now m.disk) };
-
-    ghost block_size = { λ m. m.block };
+    ghost seen = { λ m. seen_of m };
 
     fn size(&self) -> u64 {
         self.disk.size()
@@ -115,11 +112,10 @@ impl Site for MemSite {
         requires { IsSectors at (length out.old) (length (part_now self.old.disk)) }
         ensures bytes { OnOk result (out.new ≡ slice_range (part_now self.old.disk) at (at + length out.old)) }
         ensures disk { self.new.disk ≡ self.old.disk }
-        ensures block { self.new.block ≡ self.old.block }
+        ensures untouched { Untouched (seen_of self.old) (seen_of self.new) }
         ensures due { IsErr result ↔ IsDue self.old.calls }
         ensures ok_calls { OnOk result (self.new.calls ≡ after_call self.old.calls) }
         ensures err_calls { OnErr result (self.new.calls ≡ after_fault self.old.calls) }
-        ensures count { self.old.calls.faults ≤ self.new.calls.faults }
         ensures cause { OnErr result (Rose self.old.calls.faults self.new.calls.faults) }
     {
         if self.calls.next_fails() {
@@ -133,12 +129,10 @@ impl Site for MemSite {
         requires { IsSectors at (length bytes.now) (length (part_now self.old.disk)) }
         ensures ok { OnOk result (self.new.disk ≡ with_entry self.old.disk (whole_part at bytes.now)) }
         ensures err { OnErr result (self.new.disk ≡ self.old.disk) }
-        ensures size { length (part_now self.new.disk) ≡ length (part_now self.old.disk) }
-        ensures block { self.new.block ≡ self.old.block }
+        ensures frame { Frame (seen_of self.old) (seen_of self.new) }
         ensures due { IsDue self.old.calls → IsErr result }
         ensures ok_calls { OnOk result (self.new.calls ≡ after_call self.old.calls) }
         ensures err_calls { OnErr result (IsFailedCall self.old.calls self.new.calls) }
-        ensures count { self.old.calls.faults ≤ self.new.calls.faults }
         ensures cause { OnErr result (Rose self.old.calls.faults self.new.calls.faults) }
     {
         if self.calls.next_fails() {
@@ -155,11 +149,10 @@ impl Site for MemSite {
         requires { IsTrue (is_good_name name.now) }
         ensures len { IfOk result (λ len. len ≡ option_map (λ file. length file) (file_now self.old.disk name.now)) }
         ensures disk { self.new.disk ≡ self.old.disk }
-        ensures block { self.new.block ≡ self.old.block }
+        ensures untouched { Untouched (seen_of self.old) (seen_of self.new) }
         ensures due { IsErr result ↔ IsDue self.old.calls }
         ensures ok_calls { OnOk result (self.new.calls ≡ after_call self.old.calls) }
         ensures err_calls { OnErr result (self.new.calls ≡ after_fault self.old.calls) }
-        ensures count { self.old.calls.faults ≤ self.new.calls.faults }
         ensures cause { OnErr result (Rose self.old.calls.faults self.new.calls.faults) }
     {
         if self.calls.next_fails() {
@@ -173,11 +166,10 @@ impl Site for MemSite {
         requires inside { Told (Some (contents_of self.old.disk)) (λ c. IsSomeAnd (file_of c name.now) (λ file. at + length out.old ≤ length file)) }
         ensures bytes { OnOk result (IfSome (file_now self.old.disk name.now) (λ file. out.new ≡ slice_range file at (at + length out.old))) }
         ensures disk { self.new.disk ≡ self.old.disk }
-        ensures block { self.new.block ≡ self.old.block }
+        ensures untouched { Untouched (seen_of self.old) (seen_of self.new) }
         ensures due { IsErr result ↔ IsDue self.old.calls }
         ensures ok_calls { OnOk result (self.new.calls ≡ after_call self.old.calls) }
         ensures err_calls { OnErr result (self.new.calls ≡ after_fault self.old.calls) }
-        ensures count { self.old.calls.faults ≤ self.new.calls.faults }
         ensures cause { OnErr result (Rose self.old.calls.faults self.new.calls.faults) }
     {
         if self.calls.next_fails() {
@@ -191,12 +183,10 @@ impl Site for MemSite {
         requires { IsTrue (is_good_name name.now) }
         ensures ok { OnOk result (self.new.disk ≡ with_entry self.old.disk (Create name.now)) }
         ensures err { OnErr result (self.new.disk ≡ self.old.disk) }
-        ensures part { part_now self.new.disk ≡ part_now self.old.disk }
-        ensures block { self.new.block ≡ self.old.block }
+        ensures frame { Frame (seen_of self.old) (seen_of self.new) }
         ensures due { IsDue self.old.calls → IsErr result }
         ensures ok_calls { OnOk result (self.new.calls ≡ after_call self.old.calls) }
         ensures err_calls { OnErr result (IsFailedCall self.old.calls self.new.calls) }
-        ensures count { self.old.calls.faults ≤ self.new.calls.faults }
         ensures cause { OnErr result (Rose self.old.calls.faults self.new.calls.faults) }
     {
         if self.calls.next_fails() {
@@ -214,12 +204,10 @@ impl Site for MemSite {
         requires there { Told (Some (contents_of self.old.disk)) (λ c. IsSome (file_of c name.now)) }
         ensures ok { OnOk result (self.new.disk ≡ with_entry self.old.disk (Write name.now at bytes.now)) }
         ensures err { OnErr result (self.new.disk ≡ self.old.disk) }
-        ensures part { part_now self.new.disk ≡ part_now self.old.disk }
-        ensures block { self.new.block ≡ self.old.block }
+        ensures frame { Frame (seen_of self.old) (seen_of self.new) }
         ensures due { IsDue self.old.calls → IsErr result }
         ensures ok_calls { OnOk result (self.new.calls ≡ after_call self.old.calls) }
         ensures err_calls { OnErr result (IsFailedCall self.old.calls self.new.calls) }
-        ensures count { self.old.calls.faults ≤ self.new.calls.faults }
         ensures cause { OnErr result (Rose self.old.calls.faults self.new.calls.faults) }
     {
         if self.calls.next_fails() {
@@ -237,12 +225,10 @@ impl Site for MemSite {
         requires there { Told (Some (contents_of self.old.disk)) (λ c. IsSome (file_of c name.now)) }
         ensures ok { OnOk result (self.new.disk ≡ with_entry self.old.disk (Sync name.now)) }
         ensures err { OnErr result (self.new.disk ≡ self.old.disk) }
-        ensures part { part_now self.new.disk ≡ part_now self.old.disk }
-        ensures block { self.new.block ≡ self.old.block }
+        ensures frame { Frame (seen_of self.old) (seen_of self.new) }
         ensures due { IsDue self.old.calls → IsErr result }
         ensures ok_calls { OnOk result (self.new.calls ≡ after_call self.old.calls) }
         ensures err_calls { OnErr result (IsFailedCall self.old.calls self.new.calls) }
-        ensures count { self.old.calls.faults ≤ self.new.calls.faults }
         ensures cause { OnErr result (Rose self.old.calls.faults self.new.calls.faults) }
     {
         if self.calls.next_fails() {

@@ -1,6 +1,9 @@
+//! Printed text in memory.
+
 ghost use Rattle.std.specs.Prelude.{◌≡◌, ◌≤◌, ◌++◌, [], true, Some, OnOk, OnErr, IsErr};
 ghost use Rattle.fd_site.specs.Fault.{Rose};
-ghost use Rattle.fd_fake.specs.Memory.{IsDue, IsFailedCall, after_call, no_calls};
+ghost use Rattle.fd_fake.specs.Calls.{IsDue, IsFailedCall, after_call, no_calls};
+ghost use Rattle.fd_fake.specs.MemSink.{seen_of};
 
 use crate::calls::Calls;
 use fd_site::{Failed, Sink};
@@ -15,7 +18,7 @@ pub struct MemSink {
 }
 
 impl Model for MemSink {
-    ghost use Rattle.fd_fake.specs.Memory.{TextInMemory};
+    ghost use Rattle.fd_fake.specs.MemSink.{TextInMemory};
 
     ghost Value = { TextInMemory };
 
@@ -55,9 +58,7 @@ impl MemSink {
 }
 
 impl Sink for MemSink {
-    ghost told = { λ s. Some s.bytes };
-
-    ghost faults = { λ s. s.calls.faults };
+    ghost seen = { λ s. seen_of s };
 
     fn put(&mut self, bytes: &[u8]) -> Result<(), Failed>
         ensures ok { OnOk result (self.new.bytes ≡ self.old.bytes ++ bytes.now) }

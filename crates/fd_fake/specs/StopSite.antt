@@ -1,9 +1,10 @@
 -- A site that stops after a number of sectors.
-use Rattle.std.specs.Prelude.{◌≡◌, ℕ, zero, suc, ◌-◌, ◌*◌, ◌/◌, ◌<◌, Bool, List, [], ◌∷◌, length, take, Option}
+use Rattle.std.specs.Prelude.{◌≡◌, ℕ, zero, suc, ◌+◌, ◌-◌, ◌*◌, ◌/◌, ◌<◌, Bool, List, [], ◌∷◌, length, take, Option}
 use Rattle.fd_site.specs.Contents.{Contents, whole_part, with_entries}
 use Rattle.fd_site.specs.Journal.{Entry}
-use Rattle.fd_fake.specs.Memory.{risen}
-use Rattle.fd_fake.specs.declared.stop.StopSite.{StopSite}
+use Rattle.fd_site.specs.Seen.{Seen}
+use Rattle.fd_fake.specs.Calls.{risen}
+use Rattle.fd_fake.specs.declared.stop_site.StopSite.{StopSite}
 
 -- the sectors that are still passed, how often it failed a write itself, and whether a call of the inner site
 -- through it failed
@@ -18,6 +19,10 @@ state_of s = record { left = s.left; faults = s.faults; inner_failed = s.inner_f
 -- the site to which its calls are passed
 abbrev pub inner_of : {S : Type 0} → StopSite S → S
 inner_of s = s.inner.now
+
+-- what is seen of it: the inner site, with its own faults
+abbrev pub seen_of : {S : Type 0} → (S → Seen) → StopSite S → Seen
+seen_of seen s = record (seen (inner_of s)) { faults = (seen (inner_of s)).faults + s.faults }
 
 -- what it passes of the write in which it stops: the first sectors alone
 abbrev pub first_sectors : ℕ → ℕ → List ℕ → List Entry
