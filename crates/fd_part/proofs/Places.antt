@@ -8,7 +8,6 @@ use Rattle.fd_site.specs.Journal.{part_step, part_after}
 use Rattle.fd_site.specs.Contents.{whole_part}
 use Rattle.fd_site.proofs.Written.{written-all_kept}
 use Rattle.fd_part.specs.Dump.{AllSectors, writes_from}
-use Rattle.fd_judge.proofs.Starts.{AllBelow}
 
 -- so many bytes from a place on
 pub range_is : (part : List ℕ) (at n : ℕ) → slice_range part at (at + n) ≡ take n (drop at part)
@@ -17,7 +16,8 @@ range_is part at n = let size : at + n - at ≡ n = omega arith in ap (λ m. tak
 -- what stands before a place is the same where all before it is
 pub same_before : (at n end : ℕ) (part q : List ℕ) → at + n ≤ end → take end q ≡ take end part → take n (drop at q) ≡ take n (drop at part)
 same_before at n end part q le same =
-    let less : take (at + n) q ≡ take (at + n) part = sym (take-take (at + n) end q le) ∙ ap (λ (l : List ℕ). take (at + n) l) same ∙ take-take (at + n) end part le in
+    let less : take (at + n) q ≡ take (at + n) part =
+    sym (take-take (at + n) end q le) ∙ ap (λ (l : List ℕ). take (at + n) l) same ∙ take-take (at + n) end part le in
     sym (drop-take at n q) ∙ ap (λ (l : List ℕ). drop at l) less ∙ drop-take at n part
 
 pub length-put : (at : ℕ) (part bytes : List ℕ) → at + length bytes ≤ length part → length (put_mid at (length bytes) part bytes) ≡ length part
@@ -57,9 +57,3 @@ part_after-writes_from at part (p ∷ ps) sectors le =
     ap (λ (l : List ℕ). part_after l (writes_from (at + length p) ps)) first
     ∙ part_after-writes_from (at + length p) (put_mid at (length p) part p) ps sectors.1 (omega (arith, size, length-put at part p (omega (arith, size))))
     ∙ put_put at part p (concat ps) (omega (arith, size))
-
-pub AllBelow-writes_from : (end at : ℕ) (pieces : List (List ℕ)) → AllSectors pieces → at + length (concat pieces) ≤ end → AllBelow end (writes_from at pieces)
-AllBelow-writes_from end at [] sectors le = tt
-AllBelow-writes_from end at (p ∷ ps) sectors le =
-    let size : length (p ++ concat ps) ≡ length p + length (concat ps) = length-append p (concat ps) in
-    ((sectors.0, omega (arith, size)), AllBelow-writes_from end (at + length p) ps sectors.1 (omega (arith, size)))
