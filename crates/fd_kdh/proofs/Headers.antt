@@ -1,19 +1,19 @@
 -- What is read from the bytes of a header.
-use Rattle.std.proofs.Common.{◌≡◌, ℕ, zero, suc, Bool, true, false, cond, ◌-◌, ◌<◌, List, [], ◌∷◌, ◌++◌, get_or, length, take, drop, replicate, Err, Ok, refl, sym, subst, ◌∙◌, ap, arith, lit<, append_assoc, length-append}
+use Rattle.std.proofs.Common.{◌≡◌, ℕ, zero, suc, Bool, true, false, cond, ◌-◌, ◌<◌, List, [], ◌∷◌, ◌++◌, get_or, length, take, drop, replicate, Err, Ok, refl, sym, ◌∙◌, ap, arith, lit<, length-append}
 use Rattle.std.proofs.lemmas.List.{append-nil, length-replicate}
 use Rattle.std.proofs.lemmas.Slice.Eq.{bytes_eq-Decides}
-use Rattle.std.specs.Int.{w32, w64, to_be_bytes}
+use Rattle.std.specs.Int.{w32, to_be_bytes}
 use Rattle.std.specs.List.{concat}
 use Rattle.std.specs.Str.{bytes_eq}
 use Rattle.fd_bytes.specs.Field.{u32_be_at}
-use Rattle.fd_bytes.specs.Label.{IsText, text_of}
+use Rattle.fd_bytes.specs.Label.{IsByteText, IsText, text_of}
+use Rattle.fd_bytes.specs.Page.{filled}
 use Rattle.fd_bytes.proofs.Fields.{u32_be_at-spelled, u64_be_at-spelled}
 use Rattle.fd_bytes.proofs.Texts.{text_of-append}
 use Rattle.fd_kdh.specs.Parity.{words, xor_all}
 use Rattle.fd_kdh.specs.declared.header.Header.{Header}
-use Rattle.fd_kdh.specs.declared.header.HeaderFault.{HeaderFault}
 use Rattle.fd_kdh.specs.declared.header.HeaderFault.TheVariants.{Cleared, NoMagic, TextDump}
-use Rattle.fd_kdh.specs.Header.{FitsFields, IsByteText, IsWithinFields, by_magic, by_parity, by_version, cleared_magic, decoded, dump_header, fields_before_parity, fields_of, filled, live_magic, text_magic}
+use Rattle.fd_kdh.specs.Header.{FitsFields, IsWithinFields, by_magic, by_parity, by_version, cleared_magic, decoded, dump_header, fields_before_parity, fields_of, live_magic, text_magic}
 use Rattle.fd_kdh.proofs.Bytes.{AllBytes, AllBytes-append, AllBytes-be32, AllBytes-be64, AllBytes-concat, AllBytes-from_All, AllBytes-from_test, AllBytes-zeros, EachBytes, xor_all-fits}
 use Rattle.fd_kdh.proofs.Parities.{sealed}
 use Rattle.fd_kdh.proofs.Parts.{AreSized, element, length-parts, part, start}
