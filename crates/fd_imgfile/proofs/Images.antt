@@ -1,10 +1,10 @@
 -- A file whose parts were read spells the image of these parts.
 use Rattle.std.proofs.Common.{◌≡◌, ℕ, ◌+◌, ◌<◌, ◌≤◌, ◌^◌, All, List, ◌++◌, length, map, slice_range, Option, Some, None, IfSome, IsSomeAnd, sym, ◌∙◌, ap, arith}
 use Rattle.std.specs.List.{concat, flat_map}
-use Rattle.fd_image.specs.Image.{AreBytes, MachineImage, IsTyped}
+use Rattle.fd_image.specs.Image.{MachineImage}
 use Rattle.fd_image.specs.declared.parts.Seg.{Seg}
 use Rattle.fd_image.specs.declared.parts.Texts.{Texts}
-use Rattle.fd_imgfile.specs.Front.{IsWithinLimits, AreNumbers, AreTexts, IsFront, HasCounts, HasLengths, bytes_of, fields_of, tables_length, texts_length}
+use Rattle.fd_imgfile.specs.Front.{IsWithinLimits, IsFront, HasCounts, HasLengths, bytes_of, fields_of, tables_length, texts_length}
 use Rattle.fd_imgfile.specs.Reading.{SpellsImage, fault_place}
 use Rattle.fd_imgfile.specs.Spelling.{FitsFields, avail_bytes, front_of, magic, seg_bytes, spelling_of, tables_of, texts_of, u32, u64, windows_of, number_of}
 use Rattle.fd_imgfile.specs.declared.front.Front.{Front}
@@ -59,20 +59,6 @@ image_spelled f h t texts segs len read within count counts lengths table =
     ∙ (ap (λ (l : List ℕ). front_of m ++ tables_of m ++ l ++ slice_range f j len) (sym read.texts_are)
     ∙ ap (λ (l : List ℕ). front_of m ++ tables_of m ++ texts_of texts ++ l) (sym read.memory))))
 
--- the image of numbers and bytes that fit
-pub image_typed : (h : Front) (t : Tables) (texts : Texts) (segs : List Seg) → AreNumbers h → All (λ seg. (seg.start < 2 ^ 64) × AreBytes seg.bytes) segs → All (λ p. (p.0 < 2 ^ 64) × (p.1 < 2 ^ 64)) t.avail.items → All (λ page. page < 2 ^ 64) t.wanted.items → AreTexts texts → HasLengths texts h → IsTyped (image_of h t texts segs)
-image_typed h t texts segs numbers typed_segs avail wanted typed_texts lengths = record {
-  segs = typed_segs;
-  avail = avail;
-  wanted = wanted;
-  root = numbers.root;
-  kernel_window = numbers.kernel_window;
-  direct_map = numbers.direct_map;
-  names = typed_texts.names;
-  msgbuf = typed_texts.msgbuf;
-  time = omega (arith, numbers.time, lengths.time);
-}
-
 -- the image of counts and lengths within their limits
 pub image_fits : (h : Front) (t : Tables) (texts : Texts) (segs : List Seg) → IsWithinLimits h → length segs ≡ h.segs → HasCounts t h → HasLengths texts h → All (λ seg. length seg.bytes < 2 ^ 64) segs → FitsFields (image_of h t texts segs)
 image_fits h t texts segs limits count counts lengths sizes = record {
@@ -82,12 +68,11 @@ image_fits h t texts segs limits count counts lengths sizes = record {
   sizes = sizes;
 }
 
-pub image_read : (file : Option (List ℕ)) (h : Front) (t : Tables) (texts : Texts) (segs : List Seg) (len : ℕ) → IsTyped (image_of h t texts segs) → FitsFields (image_of h t texts segs) → 112 + tables_length h + texts_length h ≤ len → length segs ≡ h.segs → HasCounts t h → HasLengths texts h → flat_map seg_bytes segs ≡ flat_map avail_bytes t.segs.items → IsSomeAnd file (λ f. length f ≡ len) → IfSome file (λ f. IsFront f h) → IfSome file (λ f. fault_place f ≡ None) → IfSome file (λ f. bytes_of t ≡ slice_range f 112 (112 + tables_length h)) → IfSome file (λ f. texts_of texts ≡ slice_range f (112 + tables_length h) (112 + tables_length h + texts_length h)) → IfSome file (λ f. concat (map (λ seg. seg.bytes) segs) ≡ slice_range f (112 + tables_length h + texts_length h) len) → IsSomeAnd file (λ f. SpellsImage f (image_of h t texts segs))
-image_read None h t texts segs len typed fits within count counts lengths table has front kept tables texts_are memory = has
-image_read (Some f) h t texts segs len typed fits within count counts lengths table has front kept tables texts_are memory =
+pub image_read : (file : Option (List ℕ)) (h : Front) (t : Tables) (texts : Texts) (segs : List Seg) (len : ℕ) → FitsFields (image_of h t texts segs) → 112 + tables_length h + texts_length h ≤ len → length segs ≡ h.segs → HasCounts t h → HasLengths texts h → flat_map seg_bytes segs ≡ flat_map avail_bytes t.segs.items → IsSomeAnd file (λ f. length f ≡ len) → IfSome file (λ f. IsFront f h) → IfSome file (λ f. fault_place f ≡ None) → IfSome file (λ f. bytes_of t ≡ slice_range f 112 (112 + tables_length h)) → IfSome file (λ f. texts_of texts ≡ slice_range f (112 + tables_length h) (112 + tables_length h + texts_length h)) → IfSome file (λ f. concat (map (λ seg. seg.bytes) segs) ≡ slice_range f (112 + tables_length h + texts_length h) len) → IsSomeAnd file (λ f. SpellsImage f (image_of h t texts segs))
+image_read None h t texts segs len fits within count counts lengths table has front kept tables texts_are memory = has
+image_read (Some f) h t texts segs len fits within count counts lengths table has front kept tables texts_are memory =
     let read : IsRead f h t texts segs len = record { front = front; size = has; tables = tables; texts_are = texts_are; memory = memory } in
     record {
-      typed = typed;
       fits = fits;
       is = image_spelled f h t texts segs len read within count counts lengths table;
       no_fault = kept;

@@ -34,3 +34,10 @@ texts_read (Some f) host version panic msgbuf a i j k end first second third fou
 pub read_to : (file : Option (List ℕ)) (read kept : List ℕ) (a b i j : ℕ) → IfSome file (λ f. read ≡ slice_range f a b) → kept ≡ read → a ≡ i → b ≡ j → IfSome file (λ f. kept ≡ slice_range f i j)
 read_to None read kept a b i j is same from to = is
 read_to (Some f) read kept a b i j is same from to = same ∙ (is ∙ (ap (λ n. slice_range f n b) from ∙ ap (λ n. slice_range f i n) to))
+
+-- two parts that were read one after another
+pub joined_read : (file : Option (List ℕ)) (whole first second : List ℕ) (a i j : ℕ) → a ≤ i → i ≤ j → whole ≡ first ++ second
+    → IfSome file (λ f. first ≡ slice_range f a i) → IfSome file (λ f. second ≡ slice_range f i j) → IfSome file (λ f. whole ≡ slice_range f a j)
+joined_read None whole first second a i j one two is h k = h
+joined_read (Some f) whole first second a i j one two is h k =
+    is ∙ (ap (λ (l : List ℕ). l ++ second) h ∙ (ap (λ (l : List ℕ). slice_range f a i ++ l) k ∙ slice-join f a i j one two))

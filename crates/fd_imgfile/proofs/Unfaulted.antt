@@ -1,5 +1,5 @@
 -- The file of a valid image has no fault.
-use Rattle.std.proofs.Common.{◌≡◌, ℕ, zero, suc, ◌+◌, ◌-◌, ◌*◌, ◌<◌, ◌≤◌, ◌^◌, Bool, true, false, ◌&&◌, nat_lt, nat_le, cond, List, [], ◌∷◌, ◌++◌, length, map, take, drop, get_or, slice_range, All, Some, None, refl, sym, ◌∙◌, ap, eq-eqb, arith}
+use Rattle.std.proofs.Common.{◌≡◌, ℕ, zero, suc, ◌+◌, ◌-◌, ◌*◌, ◌<◌, ◌≤◌, ◌^◌, Bool, true, false, ◌&&◌, nat_lt, nat_le, cond, List, [], ◌∷◌, ◌++◌, length, map, take, drop, get_or, slice_range, sum, All, Some, None, refl, sym, ◌∙◌, ap, eq-eqb, arith}
 use Rattle.std.specs.Int.{w64, from_le_bytes}
 use Rattle.std.specs.List.{flat_map, range_with_len, sum_by}
 use Rattle.std.proofs.lemmas.Bool.Decides.{nat_tests}
@@ -8,7 +8,7 @@ use Rattle.std.proofs.lemmas.List.Concat.{concat_is, length-flat_map}
 use Rattle.std.proofs.lemmas.List.Elements.{All-head, All-tail}
 use Rattle.std.proofs.lemmas.List.Folds.{fold-map}
 use Rattle.std.proofs.lemmas.List.FromFn.{fill_by_all}
-use Rattle.std.proofs.lemmas.List.Sums.{get_or-le-sum_by}
+use Rattle.std.proofs.lemmas.List.Sums.{get_or-le-sum_by, sum-map}
 use Rattle.std.proofs.lemmas.Slice.Eq.{bytes_eq-Decides}
 use Rattle.fd_bytes.specs.Field.{u32_le_at, u64_le_at}
 use Rattle.fd_bytes.proofs.Fields.{u32_le_at-spelled, u64_le_at-spelled}
@@ -16,7 +16,7 @@ use Rattle.fd_bytes.specs.declared.arch.Arch.TheVariants.{Amd64, Arm64, Riscv}
 use Rattle.fd_image.specs.Image.{MachineImage, IsValid, is_within_limits, unless}
 use Rattle.fd_image.specs.declared.parts.Seg.{Seg}
 use Rattle.fd_image.proofs.Valid.{KeepsRules, rules_kept}
-use Rattle.fd_imgfile.specs.Front.{IsCounted, IsFront, IsWithinLimits, second, tables_length, texts_length}
+use Rattle.fd_imgfile.specs.Front.{IsCounted, IsFront, IsWithinLimits, lengths_in, second, tables_length, texts_length}
 use Rattle.fd_imgfile.specs.Reading.{fault_place, first_broken, front_checks}
 use Rattle.fd_imgfile.specs.Spelling.{FitsFields, avail_bytes, front_of, magic, memory_of, number_of, seg_bytes, spelling_of, u64}
 use Rattle.fd_imgfile.specs.declared.front.Front.{Front}
@@ -205,8 +205,9 @@ unfaulted m valid =
     let sizes : sum_by second pairs ≡ memory_size m.segs = fold-map (λ (a : ℕ) (p : ℕ × ℕ). a + p.1) shape_of 0 m.segs in
     let size : length f ≡ 112 + tables_length h + texts_length h + sum_by second pairs = omega (arith, sizes, memory_length m, length-append (front_of m) (table ++ r0), length-append table r0, length-append (flat_map avail_bytes m.avail) r1, length-append (flat_map u64 m.wanted) r2, length-append m.texts.host r3, length-append m.texts.version r4, length-append m.texts.panic r5, length-append m.texts.msgbuf (memory_of m), sixteens seg_bytes (λ seg. refl) m.segs, sixteens avail_bytes (λ pair. refl) m.avail, eights m.wanted) in
     let front : IsFront f h = record { long = omega (arith, size); kept = checks_kept m (table ++ r0) fits limits.1; spelled = refl; counted = counted m (table ++ r0) fits } in
-    let bytes : List ℕ = slice_range f 112 (112 + tables_length h) in
+    let bytes : List ℕ = slice_range f 112 (112 + 16 * length m.segs) in
     let none : Seg = record { start = 0; bytes = [] } in
-    let second_at : (k : ℕ) → k < length m.segs → get_or (map second pairs) k 0 ≡ u64_le_at bytes (16 * k + 8) = λ k below. get_or-map second pairs k (shape_of none) 0 (omega (arith, length-map m.segs shape_of)) ∙ (ap second (get_or-map shape_of m.segs k none (shape_of none) below) ∙ sym (u64_le_at-slice f 112 (112 + tables_length h) (16 * k + 8) (omega arith) ∙ (u64_behind (front_of m) (table ++ r0) 112 (16 * k + 8) refl ∙ size_at m.segs r0 k none below fits.sizes))) in
-    let seconds : map second pairs ≡ map (λ i. u64_le_at bytes (16 * i + 8)) (range_with_len 0 h.segs) = fill_by_all (λ i. u64_le_at bytes (16 * i + 8)) (map second pairs) (length m.segs) 0 (length-map pairs second ∙ length-map m.segs shape_of) second_at in
-    ap fault_place (spelling_in_order m) ∙ whole_kept f bytes h pairs (length f) front refl (omega (arith, size)) refl seconds size
+    let second_at : (k : ℕ) → k < length m.segs → get_or (map second pairs) k 0 ≡ u64_le_at bytes (16 * k + 8) = λ k below. get_or-map second pairs k (shape_of none) 0 (omega (arith, length-map m.segs shape_of)) ∙ (ap second (get_or-map shape_of m.segs k none (shape_of none) below) ∙ sym (u64_le_at-slice f 112 (112 + 16 * length m.segs) (16 * k + 8) (omega arith) ∙ (u64_behind (front_of m) (table ++ r0) 112 (16 * k + 8) refl ∙ size_at m.segs r0 k none below fits.sizes))) in
+    let seconds : map second pairs ≡ lengths_in bytes (length m.segs) = fill_by_all (λ i. u64_le_at bytes (16 * i + 8)) (map second pairs) (length m.segs) 0 (length-map pairs second ∙ length-map m.segs shape_of) second_at in
+    let sums : sum (lengths_in bytes (length m.segs)) ≡ sum_by second pairs = ap sum (sym seconds) ∙ sum-map second pairs in
+    ap fault_place (spelling_in_order m) ∙ whole_kept f bytes h (length f) (record { front = front; long = omega (arith, size); read = refl }) refl (omega (arith, size, sums))

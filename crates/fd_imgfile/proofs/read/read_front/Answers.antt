@@ -1,3 +1,4 @@
+-- The first 112 bytes of the file are its fields.
 use Rattle.std.proofs.Common.{◌≡◌, ℕ, List, Some, slice_range, arith}
 use Rattle.fd_imgfile.specs.Front.{IsFront}
 use Rattle.fd_imgfile.specs.Reading.{fault_place}

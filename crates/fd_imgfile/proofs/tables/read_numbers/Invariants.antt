@@ -7,5 +7,4 @@ abbrev pub invariant-loop-i : goal.invariant-loop-i
 invariant-loop-i l = record {
   count : length l.numbers.items ≡ l.i;
   spelling : flat_map u64 l.numbers.items ≡ slice_range l.bytes 0 (8 * l.i);
-  typed : All (λ n. n < 2 ^ 64) l.numbers.items;
 }
