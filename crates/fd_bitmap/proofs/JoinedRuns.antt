@@ -72,9 +72,9 @@ joined-consecutive first end page (suc count) (bit ∷ bits) within =
             let none : count_in first end (page + 1) count ≡ 0 = omega (arith, past.1) in
             let all : count_in first end page (suc count) ≡ 0 = omega (arith, past.1) in
             let rest : with_run bits (place_in first (page + 1)) (count_in first end (page + 1) count) ≡ bits =
-                ap (with_run bits (place_in first (page + 1))) none ∙ with_run-none bits (place_in first (page + 1)) in
+            ap (with_run bits (place_in first (page + 1))) none ∙ with_run-none bits (place_in first (page + 1)) in
             let whole : with_run (bit ∷ bits) (place_in first page) (count_in first end page (suc count)) ≡ bit ∷ bits =
-                ap (with_run (bit ∷ bits) (place_in first page)) all ∙ with_run-none (bit ∷ bits) (place_in first page) in
+            ap (with_run (bit ∷ bits) (place_in first page)) all ∙ with_run-none (bit ∷ bits) (place_in first page) in
             let here : (bit || is_among first end page) ≡ bit = other-bit first end page bit (λ low. past.1) in
             cc
         | inr before ↦
@@ -83,15 +83,16 @@ joined-consecutive first end page (suc count) (bit ∷ bits) within =
             let next : place_in first (page + 1) ≡ 0 = omega (arith, above.1) in
             let count_is : count_in first end page (suc count) ≡ suc (count_in first end (page + 1) count) = omega (arith, above.1, before.1) in
             let run : with_run (bit ∷ bits) 0 (suc (count_in first end (page + 1) count)) ≡ true ∷ with_run bits 0 (count_in first end (page + 1) count) =
-                with_run-first bit bits (count_in first end (page + 1) count) in
+            with_run-first bit bits (count_in first end (page + 1) count) in
             cc
       ]
       | inr below ↦
           let here : (bit || is_among first end page) ≡ bit = other-bit first end page bit (λ low. absurd (omega (arith, below.1))) in
           let place : place_in first page ≡ suc (place_in first (page + 1)) = omega (arith, below.1) in
           let same : count_in first end page (suc count) ≡ count_in first end (page + 1) count = omega (arith, below.1) in
-          let run : with_run (bit ∷ bits) (suc (place_in first (page + 1))) (count_in first end (page + 1) count) ≡ bit ∷ with_run bits (place_in first (page + 1)) (count_in first end (page + 1) count) =
-              with_run-later bit bits (place_in first (page + 1)) (count_in first end (page + 1) count) in
+          let run : with_run (bit ∷ bits) (suc (place_in first (page + 1))) (count_in first end (page + 1) count) ≡ bit ∷ with_run bits (place_in first (page + 1))
+          (count_in first end (page + 1) count) =
+          with_run-later bit bits (place_in first (page + 1)) (count_in first end (page + 1) count) in
           cc
     ]
 

@@ -8,5 +8,5 @@ pub mod WordBits
 mod RankCounts
 pub mod BitRuns
 mod KeptBits
-mod JoinedRuns
+pub mod JoinedRuns
 mod EmptyStruct

@@ -30,7 +30,7 @@ returns-clause-before c =
     let runs : List Run = c.args.runs.now in
     let count : ℕ = c.partition_point.result in
     let splits : Splits (λ run. run.page) page runs count =
-        Splits-from_search (λ run. run.page) page runs count c.partition_point.ensures.partitioned (IsOrdered-pages 0 0 runs c.requires) (λ a r f k. search rules) in
+    Splits-from_search (λ run. run.page) page runs count c.partition_point.ensures.partitioned (IsOrdered-pages 0 0 runs c.requires) (λ a r f k. search rules) in
     λ k run order at.
     EndUpTo-before page runs (count - 1) (get_or runs (count - 1) no_run) c.requires
     (slice_get-get_or runs (count - 1) no_run (omega (arith, c.partition_point.ensures.bound)))

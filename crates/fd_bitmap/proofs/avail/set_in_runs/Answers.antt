@@ -13,7 +13,8 @@ use Rattle.fd_bitmap.proofs.avail.set_in_runs.Goals as goal
 pub loop-index-init : goal.loop-index-init
 loop-index-init c = record {
   bits =
-      sym (joined-before c.args.first c.args.end c.args.runs.now c.first_to_meet-start.result c.args.map.now c.requires.laid c.requires.bits c.first_to_meet-start.ensures.within c.first_to_meet-start.ensures.before);
+      sym (joined-before c.args.first c.args.end c.args.runs.now c.first_to_meet-start.result c.args.map.now c.requires.laid c.requires.bits
+      c.first_to_meet-start.ensures.within c.first_to_meet-start.ensures.before);
   len = refl;
 }
 

@@ -13,8 +13,9 @@ invariant_of-self c =
     let size : c.min-end.result - c.args.from ≡ c.args.count = omega (arith, c.min-end.ensures, c.saturating_add.ensures, within) in
     let same : length c.set_run.new.bytes ≡ length bytes = c.set_run.ensures.len ∙ ap length c.as_mut_slice.ensures.value in
     let is : bits_of c.set_run.new.bytes ≡ with_run (bits_of bytes) c.args.from c.args.count =
-        c.set_run.ensures.bits ∙ ap (λ (l : List ℕ). with_run (bits_of l) c.args.from (c.min-end.result - c.args.from)) c.as_mut_slice.ensures.value ∙ ap (with_run (bits_of bytes) c.args.from) size in
-    rw (with_items_is c.self.inside.bytes c.set_run.new.bytes (omega (arith, same, c.self.inside.bytes.ok))) (IsKept-run bytes c.set_run.new.bytes c.self.inside.bits c.args.from c.args.count c.self.invariant within same is)
+    c.set_run.ensures.bits ∙ ap (λ (l : List ℕ). with_run (bits_of l) c.args.from (c.min-end.result - c.args.from)) c.as_mut_slice.ensures.value ∙ ap (with_run (bits_of bytes) c.args.from) size in
+    rw (with_items_is c.self.inside.bytes c.set_run.new.bytes (omega (arith, same, c.self.inside.bytes.ok)))
+    (IsKept-run bytes c.set_run.new.bytes c.self.inside.bits c.args.from c.args.count c.self.invariant within same is)
 
 pub returns : goal.returns
 returns c =
@@ -23,7 +24,7 @@ returns c =
     let size : c.min-end.result - c.args.from ≡ c.args.count = omega (arith, c.min-end.ensures, c.saturating_add.ensures, within) in
     let same : length c.set_run.new.bytes ≡ length bytes = c.set_run.ensures.len ∙ ap length c.as_mut_slice.ensures.value in
     let is : bits_of c.set_run.new.bytes ≡ with_run (bits_of bytes) c.args.from c.args.count =
-        c.set_run.ensures.bits ∙ ap (λ (l : List ℕ). with_run (bits_of l) c.args.from (c.min-end.result - c.args.from)) c.as_mut_slice.ensures.value ∙ ap (with_run (bits_of bytes) c.args.from) size in
+    c.set_run.ensures.bits ∙ ap (λ (l : List ℕ). with_run (bits_of l) c.args.from (c.min-end.result - c.args.from)) c.as_mut_slice.ensures.value ∙ ap (with_run (bits_of bytes) c.args.from) size in
     let bits =
     ap (λ (l : List ℕ). take c.self.inside.bits (bits_of l)) (with_items_is c.self.inside.bytes c.set_run.new.bytes (omega (arith, same, c.self.inside.bytes.ok)))
     ∙ run-kept bytes c.set_run.new.bytes c.self.inside.bits c.args.from c.args.count c.self.invariant within is
