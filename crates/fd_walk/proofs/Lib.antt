@@ -1,3 +1,4 @@
+pub mod AbsentEntries
 pub mod Addresses
 pub mod DirectoryEntries
 pub mod Lists
