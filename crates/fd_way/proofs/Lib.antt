@@ -1,7 +1,6 @@
 mod AvailBack
 mod BitmapBits
 mod DumpedPages
-pub mod Hex
 mod ImageWords
 mod Limits
 mod Lines

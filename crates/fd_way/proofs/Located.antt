@@ -19,9 +19,10 @@ use Rattle.fd_mini.specs.Places.{places_of}
 use Rattle.fd_vmcore.specs.Sections.{has_bit, offset_of_bit, page_offset}
 use Rattle.fd_dump.specs.Dumped.{is_available, is_dumped, pages_with_bits, dumped_bits}
 use Rattle.fd_dump.specs.Minidump.{mini_header_of, memory_of, minidump_of}
+use Rattle.fd_dump.proofs.Sizes.{length-bits}
 use Rattle.fd_way.proofs.DumpedPages.{IsBacked, backed, dumped_available, page_of-start, Stands-dumped}
-use Rattle.fd_way.proofs.Limits.{IsRange, pair_whole}
-use Rattle.fd_way.proofs.Opening.{sections_of, clear_bits, length-bits, windows_of}
+use Rattle.fd_way.proofs.Limits.{IsRange, pair_whole, windows_of}
+use Rattle.fd_way.proofs.Opening.{sections_of, clear_bits}
 use Rattle.fd_way.proofs.SectionPlaces.{Stands-memory}
 use Rattle.fd_way.proofs.Stands.{Stands, Stands-inner}
 

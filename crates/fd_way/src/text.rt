@@ -1,7 +1,8 @@
 //! The printed text of a read of kernel memory.
 ghost use Rattle.std.specs.Prelude.{◌≡◌, ◌≤◌, ◌+◌, ◌^◌, ◌++◌, length, IfOk, OnOk};
 ghost use Rattle.std.specs.String.{string_bytes};
-ghost use Rattle.fd_way.specs.ReadText.{byte_text, hex, line_of, read_text};
+ghost use Rattle.fd_bytes.specs.Printed.{hex};
+ghost use Rattle.fd_way.specs.ReadText.{byte_text, line_of, read_text};
 
 use std::alloc::{AllocError, Global};
 use std::fmt::Write;
@@ -10,7 +11,7 @@ use std::fmt::Write;
 const LINE: usize = 16;
 
 // Appends an address, in 16 digits.
-#[tactic(auto, using(crate::proofs::Hex::padded_hex))]
+#[tactic(auto, using(fd_bytes::proofs::Hex::padded_hex))]
 fn put_address(text: &mut String, va: u64) -> Result<(), AllocError>
     ensures { OnOk result (string_bytes text.new ≡ string_bytes text.old ++ hex 16 va) }
 {
@@ -18,7 +19,7 @@ fn put_address(text: &mut String, va: u64) -> Result<(), AllocError>
 }
 
 // Appends a space, and a byte in two digits.
-#[tactic(auto, using(crate::proofs::Hex::padded_hex))]
+#[tactic(auto, using(fd_bytes::proofs::Hex::padded_hex))]
 fn put_byte(text: &mut String, byte: u8) -> Result<(), AllocError>
     ensures { OnOk result (string_bytes text.new ≡ string_bytes text.old ++ byte_text byte) }
 {
