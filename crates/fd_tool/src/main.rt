@@ -5,7 +5,7 @@
 
 ghost use Rattle.std.specs.Prelude.{◌≡◌, ◌≢◌};
 ghost use Rattle.std.specs.Process.{exit_status};
-ghost use Rattle.std_io.specs.IoError.{error_kind};
+ghost use Rattle.std.specs.IoError.{error_kind};
 ghost use Rattle.fd_site.specs.Fault.{Rose};
 ghost use Rattle.fd_cli.specs.Ending.{Ends};
 ghost use Rattle.fd_cli.specs.declared.refusal.Refusal.TheVariants.{NotCommand};
@@ -13,7 +13,7 @@ ghost use Rattle.fd_cli.specs.declared.answer.Answer.TheVariants.{Refused};
 
 use fd_cli::{Invocation, Refusal, crashway, read_invocation, status};
 use fd_os::{DirSite, StdSink, hold_standard, say};
-use fd_site::{NoNet, Sink, Site};
+use fd_site::{Link, NoNet, Ports, Sink, Site};
 use std::alloc::Global;
 use std::env;
 use std::fs::File;
@@ -64,16 +64,41 @@ fn refuse<O: Sink>(alloc: Global, out: &mut O) -> u8
     }
 }
 
-// Does what the invocation's words ask for.
-fn work<S: Site, O: Sink>(
+// Does what the invocation's words ask for, with blocks of its size.
+fn work<S: Site, L: Link, P: Ports, O: Sink>(
     alloc: Global,
     invocation: &Invocation,
     site: &mut S,
+    link: &mut L,
+    ports: &mut P,
+    out: &mut O,
+) -> u8
+    requires { (S.seen site.old).block ≡ invocation.now.block }
+    ensures { Call (row_of (command_of invocation.now.words.items)) (outside (S.seen site.old) (L.seen link.old) (P.seen ports.old) (O.seen out.old)) (outside (S.seen site.new) (L.seen link.new) (P.seen ports.new) (O.seen out.new)) result }
+{
+    crashway(alloc, &invocation.words, site, link, ports, out)
+}
+
+// The same over the invocation's directory.
+fn work_in_directory<R: Files<File = File> + Eprint + AllocGlobal, O: Sink>(
+    rt: &R,
+    invocation: &Invocation,
     out: &mut O,
 ) -> u8 {
+    let mut site = match DirSite::open(rt, invocation.directory.as_str(), invocation.block) {
+        Ok(site) => site,
+        Err(why) => return early_status(rt, "dumpdev", why),
+    };
     let mut link = NoNet::new();
     let mut ports = NoNet::new();
-    crashway(alloc, &invocation.words, site, &mut link, &mut ports, out)
+    work(
+        rt.alloc(),
+        invocation,
+        &mut site,
+        &mut link,
+        &mut ports,
+        out,
+    )
 }
 
 fn run<R: Env + Files<File = File> + Print + Eprint + AllocGlobal>(rt: &R) -> u8 {
@@ -81,16 +106,11 @@ fn run<R: Env + Files<File = File> + Print + Eprint + AllocGlobal>(rt: &R) -> u8
         return early_status(rt, "/dev/null", why);
     }
     let mut out = StdSink::new(rt);
-    let invocation = match invocation(rt) {
-        Ok(Some(invocation)) => invocation,
-        Ok(None) => return refuse(rt.alloc(), &mut out),
-        Err(why) => return early_status(rt, "words", why),
-    };
-    let mut site = match DirSite::open(rt, invocation.directory.as_str(), invocation.block) {
-        Ok(site) => site,
-        Err(why) => return early_status(rt, "dumpdev", why),
-    };
-    work(rt.alloc(), &invocation, &mut site, &mut out)
+    match invocation(rt) {
+        Ok(Some(invocation)) => work_in_directory(rt, &invocation, &mut out),
+        Ok(None) => refuse(rt.alloc(), &mut out),
+        Err(why) => early_status(rt, "words", why),
+    }
 }
 
 // What the program ends with. Want of memory is said here, faults where they come.
