@@ -6,7 +6,7 @@ use Rattle.std.proofs.lemmas.List.{get_or-map, get_or_default, length-map}
 use Rattle.std.proofs.lemmas.Slice.Zip.{get_or-zip, length-zip}
 use Rattle.std.proofs.lemmas.Bool.Decides.{nat_tests}
 use Rattle.std.proofs.Math.Numerals.{add-one}
-use borrow.Author.Count.{below_none, below_more}
+use borrow.Author.Count.{below_more}
 use Rattle.fd_image.specs.Image.{first_failing, beside_the_one_before}
 
 -- all items before this one pass, and this one fails
@@ -36,9 +36,6 @@ pub record InOrder {X : Type 0} (test : ℕ × X → Bool) (number : X → ℕ) 
   pub passes : (k : ℕ) → k < i → (d : X) → test (get_or (0 ∷ map number xs) k 0, get_or xs k d) ≡ true
 
 module _ {X : Type 0} (test : ℕ × X → Bool) (number : X → ℕ) (xs : List X) where
-  pub InOrder-start : InOrder test number xs 0 0
-  InOrder-start = record { before_is = refl; passes = below_none (λ k. (d : X) → test (get_or (0 ∷ map number xs) k 0, get_or xs k d) ≡ true) }
-
   -- what the test says of the item here, at any default
   tested : (i before : ℕ) (x e d : X) (b : Bool) → InOrder test number xs i before → i < length xs → x ≡ get_or xs i e
       → test (before, x) ≡ b → test (get_or (0 ∷ map number xs) i 0, get_or xs i d) ≡ b
