@@ -1,3 +1,4 @@
+-- The leaves that are left are still to be marked.
 use Rattle.std.proofs.Common.{◌≡◌, length}
 use Rattle.std.specs.List.{list_any}
 use Rattle.fd_dump.specs.Dumped.{is_under_leaf, is_mapped}

@@ -1,3 +1,4 @@
+-- The wanted pages that are left are still to be marked.
 use Rattle.std.proofs.Common.{◌≡◌, drop, length}
 use Rattle.std.specs.Prelude.{◌==◌}
 use Rattle.std.specs.List.{list_any}
