@@ -58,7 +58,8 @@ against_rule : (f : List ℕ) (bad : rules.BadImage) → SpellsBroken f bad → 
 against_rule f bad broken (Ok n) read tells = let rule : Some bad ≡ None = same_rule f broken.image n (Some bad) None (of_broken f bad broken) (of_valid f n read) in absurd (cc rule)
 against_rule f bad broken (Err NoFile) read tells = absurd (cc)
 against_rule f bad broken (Err (NotImage place)) read tells = let kept : fault_place f ≡ None = broken.spelled.no_fault in absurd (cc (kept, read))
-against_rule f bad broken (Err (BadImage other)) read tells = let rule : Some bad ≡ Some other = same_rule f broken.image read.image (Some bad) (Some other) (of_broken f bad broken) (of_broken f other read) in cc rule
+against_rule f bad broken (Err (BadImage other)) read tells = let rule : Some bad ≡ Some other = same_rule f broken.image read.image (Some bad) (Some other) (of_broken f bad broken)
+    (of_broken f other read) in cc rule
 against_rule f bad broken (Err SiteFault) read tells = absurd tells
 against_rule f bad broken (Err NoMemory) read tells = absurd tells
 

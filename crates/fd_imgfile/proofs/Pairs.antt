@@ -15,19 +15,27 @@ pub flat_map_push : {X : Type 0} (f : X → List ℕ) (xs : List X) (x : X) (don
 flat_map_push f xs x done is = flat_map-append f xs (x ∷ []) ∙ (ap (λ (l : List ℕ). flat_map f xs ++ l) (append-nil (f x)) ∙ ap (λ (l : List ℕ). l ++ f x) is)
 
 -- one more number
-pub number_more : (bytes : List ℕ) (numbers : List ℕ) (n i : ℕ) → flat_map u64 numbers ≡ slice_range bytes 0 (8 * i) → u64 n ≡ slice_range bytes (8 * i) (8 * i + 8) → flat_map u64 (numbers ++ n ∷ []) ≡ slice_range bytes 0 (8 * (i + 1))
+pub number_more : (bytes : List ℕ) (numbers : List ℕ) (n i : ℕ) → flat_map u64 numbers ≡ slice_range bytes 0 (8 * i) → u64 n ≡ slice_range bytes (8 * i) (8 * i + 8)
+    → flat_map u64 (numbers ++ n ∷ []) ≡ slice_range bytes 0 (8 * (i + 1))
 number_more bytes numbers n i so_far next =
-    flat_map_push u64 numbers n (slice_range bytes 0 (8 * i)) so_far ∙ (ap (λ (l : List ℕ). slice_range bytes 0 (8 * i) ++ l) next ∙ (slice-join bytes 0 (8 * i) (8 * i + 8) (omega arith) (omega arith) ∙ ap (λ k. slice_range bytes 0 k) (omega arith)))
+    flat_map_push u64 numbers n (slice_range bytes 0 (8 * i)) so_far
+    ∙ (ap (λ (l : List ℕ). slice_range bytes 0 (8 * i) ++ l) next ∙ (slice-join bytes 0 (8 * i) (8 * i + 8) (omega arith) (omega arith) ∙ ap (λ k. slice_range bytes 0 k) (omega arith)))
 
 -- one more pair
-pub pair_more : (bytes : List ℕ) (pairs : List (ℕ × ℕ)) (a b i : ℕ) → flat_map avail_bytes pairs ≡ slice_range bytes 0 (16 * i) → u64 a ≡ slice_range bytes (16 * i) (16 * i + 8) → u64 b ≡ slice_range bytes (16 * i + 8) (16 * i + 8 + 8) → flat_map avail_bytes (pairs ++ (a, b) ∷ []) ≡ slice_range bytes 0 (16 * (i + 1))
+pub pair_more : (bytes : List ℕ) (pairs : List (ℕ × ℕ)) (a b i : ℕ) → flat_map avail_bytes pairs ≡ slice_range bytes 0 (16 * i) → u64 a ≡ slice_range bytes (16 * i) (16 * i + 8)
+    → u64 b ≡ slice_range bytes (16 * i + 8) (16 * i + 8 + 8) → flat_map avail_bytes (pairs ++ (a, b) ∷ []) ≡ slice_range bytes 0 (16 * (i + 1))
 pair_more bytes pairs a b i so_far first second =
-    let both : avail_bytes (a, b) ≡ slice_range bytes (16 * i) (16 * i + 8 + 8) = ap (λ (l : List ℕ). l ++ u64 b) first ∙ (ap (λ (l : List ℕ). slice_range bytes (16 * i) (16 * i + 8) ++ l) second ∙ slice-join bytes (16 * i) (16 * i + 8) (16 * i + 8 + 8) (omega arith) (omega arith)) in
-    flat_map_push avail_bytes pairs (a, b) (slice_range bytes 0 (16 * i)) so_far ∙ (ap (λ (l : List ℕ). slice_range bytes 0 (16 * i) ++ l) both ∙ (slice-join bytes 0 (16 * i) (16 * i + 8 + 8) (omega arith) (omega arith) ∙ ap (λ k. slice_range bytes 0 k) (omega arith)))
+    let both : avail_bytes (a, b) ≡ slice_range bytes (16 * i) (16 * i + 8 + 8) =
+    ap (λ (l : List ℕ). l ++ u64 b) first
+    ∙ (ap (λ (l : List ℕ). slice_range bytes (16 * i) (16 * i + 8) ++ l) second ∙ slice-join bytes (16 * i) (16 * i + 8) (16 * i + 8 + 8) (omega arith) (omega arith)) in
+    flat_map_push avail_bytes pairs (a, b) (slice_range bytes 0 (16 * i)) so_far
+    ∙ (ap (λ (l : List ℕ). slice_range bytes 0 (16 * i) ++ l) both ∙ (slice-join bytes 0 (16 * i) (16 * i + 8 + 8) (omega arith) (omega arith) ∙ ap (λ k. slice_range bytes 0 k) (omega arith)))
 
-pub second_more : (bytes : List ℕ) (pairs : List (ℕ × ℕ)) (a b i : ℕ) → map second pairs ≡ lengths_in bytes i → b ≡ u64_le_at bytes (16 * i + 8) → map second (pairs ++ (a, b) ∷ []) ≡ lengths_in bytes (i + 1)
+pub second_more : (bytes : List ℕ) (pairs : List (ℕ × ℕ)) (a b i : ℕ) → map second pairs ≡ lengths_in bytes i → b ≡ u64_le_at bytes (16 * i + 8)
+    → map second (pairs ++ (a, b) ∷ []) ≡ lengths_in bytes (i + 1)
 second_more bytes pairs a b i so_far next =
-    map_push second pairs (a, b) ∙ (ap (λ (l : List ℕ). l ++ b ∷ []) so_far ∙ (ap (λ n. lengths_in bytes i ++ n ∷ []) next ∙ sym (map-range_with_len_more (λ i. u64_le_at bytes (16 * i + 8)) 0 i i (omega arith))))
+    map_push second pairs (a, b)
+    ∙ (ap (λ (l : List ℕ). l ++ b ∷ []) so_far ∙ (ap (λ n. lengths_in bytes i ++ n ∷ []) next ∙ sym (map-range_with_len_more (λ i. u64_le_at bytes (16 * i + 8)) 0 i i (omega arith))))
 
 -- a list of functions of places is known by its values
 pub same_map : {X : Type 0} (f g : ℕ → X) (n : ℕ) (d : X) → ((k : ℕ) → k < n → f k ≡ g k) → map f (range_with_len 0 n) ≡ map g (range_with_len 0 n)

@@ -1,5 +1,6 @@
 -- What a file says of an image: the image, or why it spells none, or the rule that the image which it spells breaks.
-use Rattle.std.specs.Prelude.{◌≡◌, ℕ, ◌+◌, ◌*◌, Bool, ◌==◌, nat_lt, nat_le, min, if◌then◌else◌, List, [], ◌∷◌, length, map, take, Option, Some, None, IsSomeAnd, Result, Ok, Err}
+use Rattle.std.specs.Prelude.{◌≡◌, ℕ, ◌+◌, ◌*◌, Bool, ◌==◌, nat_lt, nat_le, min, if◌then◌else◌, List, [], ◌∷◌, length, map, take, Option, Some, None}
+use Rattle.std.specs.Prelude.{IsSomeAnd, Result, Ok, Err}
 use Rattle.std.specs.List.{range_with_len, sum}
 use Rattle.std.specs.Str.{bytes_eq}
 use Rattle.fd_bytes.specs.Field.{u32_le_at, u64_le_at}

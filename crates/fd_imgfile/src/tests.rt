@@ -219,17 +219,18 @@ fn a_file_must_be_there_and_the_site_may_fail(rt: HostRuntime) -> Result<(), Fai
     Ok(())
 }
 
+// Whether this number and this text are printed of a refusal.
+fn is_printed(alloc: Global, fault: ImageFault, number: u8, text: &str) -> Result<bool, Fail> {
+    let printed = format!(in alloc; "{fault}")?;
+    Ok(fault.number() == number && printed.as_str() == text)
+}
+
 #[test]
 fn refusals_have_numbers_and_texts(rt: HostRuntime) -> Result<(), Fail> {
     let alloc = rt.alloc();
-    let bad = ImageFault::BadImage(BadImage { rule: 8, place: 0 });
-    for (fault, number, text) in [
-        (ImageFault::NoFile, 41, "no file"),
-        (ImageFault::NotImage(52), 42, "not an image at 52"),
-        (bad, 43, "rule 8 at 0"),
-    ] {
-        assert_eq!(rt; fault.number(), number);
-        assert_eq!(rt; format!(in alloc; "{fault}")?.as_str(), text);
-    }
+    let bad = BadImage { rule: 8, place: 0 };
+    assert!(rt; is_printed(alloc, ImageFault::NoFile, 41, "no file")?);
+    assert!(rt; is_printed(alloc, ImageFault::NotImage(52), 42, "not an image at 52")?);
+    assert!(rt; is_printed(alloc, ImageFault::BadImage(bad), 43, "rule 8 at 0")?);
     Ok(())
 }

@@ -1,3 +1,4 @@
+-- The windows spell their five numbers.
 use Rattle.fd_imgfile.proofs.Fields.{windows_spelled}
 use Rattle.fd_imgfile.proofs.front.windows_in.Goals as goal
 

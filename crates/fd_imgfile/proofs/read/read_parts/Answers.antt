@@ -26,7 +26,8 @@ returns-clause-parts g c =
     let told-4 : (g.S.Site.seen c.read_texts.new.site).told ≡ (g.S.Site.seen c.args.site.now).told = c.in_ok-texts.ensures.untouched.told ∙ told-3 in
     let whole : j + sum_by second t.segs.items ≡ c.args.len = c.in_ok-tables.ensures.whole in
     let count : length segs ≡ h.segs = c.in_ok-segs.ensures.places ∙ (ap length pairs ∙ c.in_ok-tables.ensures.counts.segs) in
-    let fits : FitsFields (image_of h t texts segs) = image_fits h t texts segs c.in_ok-front.ensures.limits count c.in_ok-tables.ensures.counts c.in_ok-texts.ensures.lengths c.in_ok-segs.ensures.sizes in
+    let fits : FitsFields (image_of h t texts segs) =
+    image_fits h t texts segs c.in_ok-front.ensures.limits count c.in_ok-tables.ensures.counts c.in_ok-texts.ensures.lengths c.in_ok-segs.ensures.sizes in
     let table : flat_map seg_bytes segs ≡ flat_map avail_bytes t.segs.items = c.in_ok-segs.ensures.table ∙ ap (flat_map avail_bytes) pairs in
     let end : c.tables_length-texts_at.result ≡ tables_length h = c.tables_length-texts_at.ensures in
     let more : c.texts_length.result ≡ texts_length h = c.texts_length.ensures in

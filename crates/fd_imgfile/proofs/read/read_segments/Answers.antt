@@ -36,12 +36,18 @@ loop-pair-preserved g c =
     let pushed : c.push.new.self.items ≡ segs ++ seg ∷ [] = c.in-Ok.ensures.items in
     let size_is : length c.in_ok-read_bytes.field-0.items ≡ pair.1 = c.in_ok-read_bytes.ensures.len in
     let len_is : length seg.bytes ≡ pair.1 = ap length c.new-bytes.ensures ∙ size_is in
-    let was : OfFile (g.S.Site.seen c.args.site.now).told c.args.name.now (λ file. c.in_ok-read_bytes.field-0.items ≡ slice_range file next (next + pair.1)) = subst (λ (t : Option Contents). OfFile t c.args.name.now (λ file. c.in_ok-read_bytes.field-0.items ≡ slice_range file next (next + pair.1))) c.loop-pair.invariant.untouched.told c.in_ok-read_bytes.ensures.bytes in
+    let was : OfFile (g.S.Site.seen c.args.site.now).told c.args.name.now (λ file. c.in_ok-read_bytes.field-0.items ≡ slice_range file next (next + pair.1)) =
+    subst (λ (t : Option Contents). OfFile t c.args.name.now
+    (λ file. c.in_ok-read_bytes.field-0.items ≡ slice_range file next (next + pair.1))) c.loop-pair.invariant.untouched.told c.in_ok-read_bytes.ensures.bytes in
     record {
       next = omega (arith, sum_by_more second table i (0, 0) (omega arith), c.loop-pair.invariant.next);
       places = rw pushed (omega (arith, length_push segs seg, c.loop-pair.invariant.places));
       table_so_far = ap (flat_map seg_bytes) pushed ∙ table_more segs seg table i pair (omega arith) (get_or_default table i (0, 0) pair (omega arith)) refl len_is c.loop-pair.invariant.table_so_far;
-      memory = OfFile-both _ _ (λ file. concat (map (λ seg. seg.bytes) segs) ≡ slice_range file c.args.at next) (λ file. c.in_ok-read_bytes.field-0.items ≡ slice_range file next (next + pair.1)) (λ file. concat (map (λ seg. seg.bytes) c.push.new.self.items) ≡ slice_range file c.args.at (next + pair.1)) c.loop-pair.invariant.memory was (λ f before read. ap (λ (l : List Seg). concat (map (λ seg. seg.bytes) l)) pushed ∙ memory_more f segs seg c.args.at next (next + pair.1) (omega (arith, c.loop-pair.invariant.next)) (omega arith) before (c.new-bytes.ensures ∙ read));
+      memory =
+          OfFile-both _ _ (λ file. concat (map (λ seg. seg.bytes) segs) ≡ slice_range file c.args.at next) (λ file. c.in_ok-read_bytes.field-0.items ≡ slice_range file next (next + pair.1))
+          (λ file. concat (map (λ seg. seg.bytes) c.push.new.self.items) ≡ slice_range file c.args.at (next + pair.1)) c.loop-pair.invariant.memory was
+          (λ f before read. ap (λ (l : List Seg). concat (map (λ seg. seg.bytes) l)) pushed ∙ memory_more f segs seg c.args.at next (next + pair.1) (omega (arith, c.loop-pair.invariant.next))
+          (omega arith) before (c.new-bytes.ensures ∙ read));
       sizes = rw pushed (All-push (λ seg. length seg.bytes < 2 ^ 64) segs seg c.loop-pair.invariant.sizes (omega (arith, len_is)));
       untouched = record {
         told = c.in_ok-read_bytes.ensures.untouched.told ∙ c.loop-pair.invariant.untouched.told;

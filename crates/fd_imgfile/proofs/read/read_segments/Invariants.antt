@@ -1,5 +1,5 @@
 -- The segments so far spell the table and the memory so far.
-use Rattle.std.proofs.Common.{◌≡◌, ◌+◌, ◌<◌, ◌≤◌, ◌^◌, All, length, map, slice_range, take}
+use Rattle.std.proofs.Common.{◌≡◌, ◌+◌, ◌<◌, ◌^◌, All, length, map, slice_range, take}
 use Rattle.std.specs.List.{concat, flat_map, sum_by}
 use Rattle.fd_site.specs.Seen.{Untouched}
 use Rattle.fd_imgfile.specs.File.{OfFile}

@@ -1,8 +1,8 @@
 -- The length of the file against the length that the table of segments gives it.
-use Rattle.std.proofs.Common.{◌≡◌, ◌*◌, ◌+◌, ◌<◌, ◌≤◌, ℕ, List, Some, None, length, min, slice_range, sum, sym, subst, ◌∙◌, ap, arith}
+use Rattle.std.proofs.Common.{◌≡◌, ◌*◌, ◌+◌, ◌<◌, ℕ, List, Some, None, min, slice_range, sym, subst, ◌∙◌, ap, arith}
 use Rattle.fd_site.specs.Contents.{file_of}
 use Rattle.fd_imgfile.specs.File.{OfFile}
-use Rattle.fd_imgfile.specs.Front.{IsFront, lengths_in, tables_length, texts_length}
+use Rattle.fd_imgfile.specs.Front.{IsFront, tables_length}
 use Rattle.fd_imgfile.specs.Reading.{fault_place}
 use Rattle.fd_imgfile.specs.declared.front.Front.{Front}
 use Rattle.fd_imgfile.proofs.Files.{IsFileAnd-more, OfFile-from_and}

@@ -1,5 +1,5 @@
 -- The tables are those of the file.
-use Rattle.std.proofs.Common.{◌≡◌, ◌+◌, ◌*◌, ℕ, ◌∙◌, arith}
+use Rattle.std.proofs.Common.{◌≡◌, ◌+◌, ◌*◌, ◌∙◌, arith}
 use Rattle.fd_site.specs.Contents.{file_of}
 use Rattle.fd_imgfile.specs.Front.{tables_length}
 use Rattle.fd_imgfile.specs.declared.front.Front.{Front}

@@ -1,3 +1,4 @@
+-- Four texts are read, one after another.
 use Rattle.std.proofs.Common.{◌≡◌, ℕ, ◌+◌, List, Option, ◌∙◌, arith}
 use Rattle.fd_site.specs.Contents.{file_of}
 use Rattle.fd_imgfile.specs.declared.front.Front.{Front}

@@ -1,4 +1,5 @@
-use Rattle.std.proofs.Common.{◌≡◌, ◌*◌, ◌<◌, ◌^◌, All, length, slice_range}
+-- The numbers so far spell the bytes so far.
+use Rattle.std.proofs.Common.{◌≡◌, ◌*◌, length, slice_range}
 use Rattle.std.specs.List.{flat_map}
 use Rattle.fd_imgfile.specs.Spelling.{u64}
 use Rattle.fd_imgfile.proofs.tables.read_numbers.Given as goal

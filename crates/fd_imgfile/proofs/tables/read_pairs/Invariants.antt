@@ -1,6 +1,6 @@
-use Rattle.std.proofs.Common.{◌≡◌, ◌+◌, ◌*◌, ◌<◌, ◌^◌, All, length, map, slice_range}
-use Rattle.std.specs.List.{flat_map, range_with_len}
-use Rattle.fd_bytes.specs.Field.{u64_le_at}
+-- The pairs so far spell the bytes so far.
+use Rattle.std.proofs.Common.{◌≡◌, ◌*◌, length, map, slice_range}
+use Rattle.std.specs.List.{flat_map}
 use Rattle.fd_imgfile.specs.Front.{lengths_in, second}
 use Rattle.fd_imgfile.specs.Spelling.{avail_bytes}
 use Rattle.fd_imgfile.proofs.tables.read_pairs.Given as goal
