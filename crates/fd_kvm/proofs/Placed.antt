@@ -82,14 +82,19 @@ still_by_window h va i is within =
     ])
 
 -- an address is mapped by the directory's entry
-pub by_window_here : (f : List ℕ) (s : Sections) (va : ℕ) (kind : Kind) → is_by_window s.header va ≡ true → kind ≡ kind_of s.header.arch (directory_entry f s.header va) (directory_height_of s.header.arch) → placed f s va ≡ by_entry f s va kind
+pub by_window_here :
+    (f : List ℕ) (s : Sections) (va : ℕ) (kind : Kind) → is_by_window s.header va ≡ true
+    → kind ≡ kind_of s.header.arch (directory_entry f s.header va) (directory_height_of s.header.arch) → placed f s va ≡ by_entry f s va kind
 unfolding placed
 by_window_here f s va kind is entry =
     chosen_window (window_is_first s.header) (is_in_kernel_window s.header va) (is_in_direct_map s.header va) (by_directory f s va) (by_direct_map s.header va) (Err (Outside va)) is
     ∙ ap (by_entry f s va) (sym entry)
 
 -- and so are those behind it
-pub by_window : (f : List ℕ) (s : Sections) (va i : ℕ) (kind : Kind) → is_by_window s.header va ≡ true → kind ≡ kind_of s.header.arch (directory_entry f s.header va) (directory_height_of s.header.arch) → i < window_limit s.header va → placed f s (va + i) ≡ by_entry f s (va + i) kind
+pub by_window :
+    (f : List ℕ) (s : Sections) (va i : ℕ) (kind : Kind) → is_by_window s.header va ≡ true
+    → kind ≡ kind_of s.header.arch (directory_entry f s.header va) (directory_height_of s.header.arch) → i < window_limit s.header va
+    → placed f s (va + i) ≡ by_entry f s (va + i) kind
 by_window f s va i kind is entry within =
     let h = s.header in
     let inside = in_window h va (by_window_in h va is) in
@@ -99,13 +104,17 @@ by_window f s va i kind is entry within =
     (entry ∙ ap (λ n. kind_of h.arch (u64_le_at f ((places_of h).directory + 8 * n)) (directory_height_of h.arch)) (sym same))
 
 -- the addresses of a leaf of the directory
-pub leaf_next : (f : List ℕ) (s : Sections) (va i address : ℕ) → s.header.kernbase ≤ va → i < unit_of s.header - unit_offset s.header va → by_entry f s (va + i) (Leaf address) ≡ Ok (address + unit_offset s.header va + i)
+pub leaf_next :
+    (f : List ℕ) (s : Sections) (va i address : ℕ) → s.header.kernbase ≤ va → i < unit_of s.header - unit_offset s.header va
+    → by_entry f s (va + i) (Leaf address) ≡ Ok (address + unit_offset s.header va + i)
 leaf_next f s va i address low within =
     let next = next_offset s.header va i low within in
     ap (λ n. Ok n) (omega arith)
 
 -- the addresses of a page that a table's entry maps
-pub page_next : (f : List ℕ) (arch : Arch) (va i place address : ℕ) → kind_of arch (table_entry f place va) 0 ≡ Leaf address → i < 4096 - va % 4096 → by_table f arch (va + i) (Some place) ≡ Ok (address + va % 4096 + i)
+pub page_next :
+    (f : List ℕ) (arch : Arch) (va i place address : ℕ) → kind_of arch (table_entry f place va) 0 ≡ Leaf address → i < 4096 - va % 4096
+    → by_table f arch (va + i) (Some place) ≡ Ok (address + va % 4096 + i)
 page_next f arch va i place address leaf within =
     let same : (va + i) / 4096 ≡ va / 4096 = omega arith in
     let next : address + (va + i) % 4096 ≡ address + va % 4096 + i = omega arith in
@@ -135,7 +144,8 @@ not_asked h va i is direct next within =
       | inr outside ↦ and_left (is_in_kernel_window h (va + i)) (first || not (is_in_direct_map h (va + i))) outside
       | inl inside ↦ elim (and_cases (is_in_kernel_window h va) (first || not (is_in_direct_map h va)) is) [
         | inl outside ↦ absurd (both_ways (is_in_kernel_window h va) outside (earlier_in_window h va i inside within))
-        | inr neither ↦ and_right (is_in_kernel_window h (va + i)) (first || not (is_in_direct_map h (va + i))) (or_from first (not (is_in_direct_map h (va + i))) (or_parts first (not (is_in_direct_map h va)) neither).0 out)
+        | inr neither ↦ and_right (is_in_kernel_window h (va + i)) (first || not (is_in_direct_map h (va + i)))
+            (or_from first (not (is_in_direct_map h (va + i))) (or_parts first (not (is_in_direct_map h va)) neither).0 out)
       ]
     ]
 
@@ -146,7 +156,9 @@ still_direct h va i direct within =
     and_from (nat_le h.dmapbase (va + i)) (nat_lt (va + i) h.dmapend) (le-leb h.dmapbase (va + i) (omega arith)) (lt-ltb (va + i) h.dmapend (omega arith))
 
 -- the addresses of the direct map
-pub direct_next : (f : List ℕ) (s : Sections) (va i : ℕ) → is_by_window s.header va ≡ false → is_in_direct_map s.header va ≡ true → i < min (s.header.dmapend - va) (up_to va s.header.kernbase) → placed f s (va + i) ≡ Ok (va - s.header.dmapbase + s.header.dmapphys + i)
+pub direct_next :
+    (f : List ℕ) (s : Sections) (va i : ℕ) → is_by_window s.header va ≡ false → is_in_direct_map s.header va ≡ true
+    → i < min (s.header.dmapend - va) (up_to va s.header.kernbase) → placed f s (va + i) ≡ Ok (va - s.header.dmapbase + s.header.dmapphys + i)
 unfolding placed
 direct_next f s va i is direct within =
     let h = s.header in
@@ -154,7 +166,8 @@ direct_next f s va i is direct within =
     let next = still_direct h va i direct few.0 in
     let low = leb-true h.dmapbase va (and_parts (nat_le h.dmapbase va) (nat_lt va h.dmapend) direct).0 in
     let sum : va + i - h.dmapbase + h.dmapphys ≡ va - h.dmapbase + h.dmapphys + i = omega arith in
-    chosen_direct (window_is_first h) (is_in_kernel_window h (va + i)) (is_in_direct_map h (va + i)) (by_directory f s (va + i)) (by_direct_map h (va + i)) (Err (Outside (va + i))) (not_asked h va i is direct next few.1) next
+    chosen_direct (window_is_first h) (is_in_kernel_window h (va + i)) (is_in_direct_map h (va + i)) (by_directory f s (va + i)) (by_direct_map h (va + i))
+    (Err (Outside (va + i))) (not_asked h va i is direct next few.1) next
     ∙ ap (λ n. Ok n) sum
 
 -- an address in neither
@@ -164,12 +177,16 @@ outside f s va is direct =
     chosen_none (window_is_first s.header) (is_in_kernel_window s.header va) (is_in_direct_map s.header va) (by_directory f s va) (by_direct_map s.header va) (Err (Outside va)) is direct
 
 -- The kind that was found is the kind of the directory's entry.
-pub kind_found : (f : List ℕ) (s : Sections) (va : ℕ) (h : MiniHeader) (directory index bits height : ℕ) (kind : Kind) → h ≡ s.header → directory ≡ (places_of s.header).directory → index ≡ entry_index h va → bits ≡ u64_le_at f (directory + 8 * index) → height ≡ directory_height_of h.arch → kind ≡ kind_of h.arch bits height → kind ≡ kind_of s.header.arch (directory_entry f s.header va) (directory_height_of s.header.arch)
+pub kind_found :
+    (f : List ℕ) (s : Sections) (va : ℕ) (h : MiniHeader) (directory index bits height : ℕ) (kind : Kind) → h ≡ s.header
+    → directory ≡ (places_of s.header).directory → index ≡ entry_index h va → bits ≡ u64_le_at f (directory + 8 * index) → height ≡ directory_height_of h.arch
+    → kind ≡ kind_of h.arch bits height → kind ≡ kind_of s.header.arch (directory_entry f s.header va) (directory_height_of s.header.arch)
 kind_found f s va h directory index bits height kind same_header same_directory same_index read low is =
     is
     ∙ ap (kind_of h.arch bits) low
     ∙ ap (λ (g : MiniHeader). kind_of g.arch bits (directory_height_of g.arch)) same_header
-    ∙ ap (λ b. kind_of s.header.arch b (directory_height_of s.header.arch)) (read ∙ ap (λ n. u64_le_at f (n + 8 * index)) same_directory ∙ ap (λ n. u64_le_at f ((places_of s.header).directory + 8 * n)) (same_index ∙ ap (λ (g : MiniHeader). entry_index g va) same_header))
+    ∙ ap (λ b. kind_of s.header.arch b (directory_height_of s.header.arch)) (read ∙ ap (λ n. u64_le_at f (n + 8 * index)) same_directory
+    ∙ ap (λ n. u64_le_at f ((places_of s.header).directory + 8 * n)) (same_index ∙ ap (λ (g : MiniHeader). entry_index g va) same_header))
 
 -- A fault of the entry is the address's fault.
 pub fault_here : (placed_at by_kind : ℕ → Result ℕ AddressFault) (va : ℕ) (fault : ReadFault) → placed_at va ≡ by_kind va → IsSpan by_kind va (Err fault) → IsSpan placed_at va (Err fault)

@@ -1,6 +1,6 @@
 -- The physical address that a kernel address of a vmcore stands for, or why it stands for none.
 -- Source: _kvm_minidump_vatop of libkvm (lib/libkvm/kvm_minidump_amd64.c, kvm_minidump_aarch64.c, kvm_minidump_riscv.c).
-use Rattle.std.specs.Prelude.{ℕ, ◌+◌, ◌-◌, ◌*◌, ◌/◌, ◌%◌, Bool, true, false, ◌&&◌, nat_le, nat_lt, if◌then◌else◌, List, Option, Some, None, Result, Ok, Err}
+use Rattle.std.specs.Prelude.{ℕ, ◌+◌, ◌-◌, ◌*◌, ◌/◌, ◌%◌, Bool, ◌&&◌, nat_le, nat_lt, if◌then◌else◌, List, Option, Some, None, Result, Ok, Err}
 use Rattle.fd_bytes.specs.Field.{u64_le_at}
 use Rattle.fd_bytes.specs.Profile.{profile_of}
 use Rattle.fd_bytes.specs.declared.arch.Arch.{Arch}

@@ -62,7 +62,9 @@ one_more_set (true ∷ bits) zero set = rw (set_count-cons true bits) (omega ari
 one_more_set (b ∷ bits) (suc bit) set =
     rw (set_count-cons b bits, set_count-cons b (take bit bits)) (let later = one_more_set bits bit set in omega arith)
 
-page_of_bit : (s : Sections) (found : Bool) (bit place : ℕ) → has_bit s.bits bit ≡ found → (if found then Some ((places_of s.header).pages + 4096 * set_count (take bit s.bits)) else None) ≡ Some place → place + 4096 ≤ pages_end s
+page_of_bit :
+    (s : Sections) (found : Bool) (bit place : ℕ) → has_bit s.bits bit ≡ found
+    → (if found then Some ((places_of s.header).pages + 4096 * set_count (take bit s.bits)) else None) ≡ Some place → place + 4096 ≤ pages_end s
 page_of_bit s false bit place set is = absurd (cc)
 page_of_bit s true bit place set is =
     let e : (places_of s.header).pages + 4096 * set_count (take bit s.bits) ≡ place = cc in

@@ -55,12 +55,15 @@ module _ (avail : List (ℕ × ℕ)) (typed : All (λ pair. (pair.0 < 2 ^ 64) ×
       let pair : ℕ × ℕ = get_or avail k (0, 0) in
       let fits = All-get_or (λ (p : ℕ × ℕ). (p.0 < 2 ^ 64) × (p.1 < 2 ^ 64)) avail k (0, 0) within typed in
       same_pair (u64_le_at section (16 * k)) (u64_le_at section (16 * k + 8)) pair.0 pair.1
-      (u64_le_at-Stands section (16 * k) pair.0 (Stands-inner (to_le_bytes w64 pair.0) (pair_bytes pair) section 0 (16 * k) (16 * k) (omega arith) (Stands-first (to_le_bytes w64 pair.0) (to_le_bytes w64 pair.1)) (Stands-pair k within)) fits.0)
-      (u64_le_at-Stands section (16 * k + 8) pair.1 (Stands-inner (to_le_bytes w64 pair.1) (pair_bytes pair) section 8 (16 * k) (16 * k + 8) refl (Stands-last (to_le_bytes w64 pair.0) (to_le_bytes w64 pair.1) 8 refl) (Stands-pair k within)) fits.1)
+      (u64_le_at-Stands section (16 * k) pair.0 (Stands-inner (to_le_bytes w64 pair.0) (pair_bytes pair) section 0 (16 * k) (16 * k) (omega arith)
+      (Stands-first (to_le_bytes w64 pair.0) (to_le_bytes w64 pair.1)) (Stands-pair k within)) fits.0)
+      (u64_le_at-Stands section (16 * k + 8) pair.1 (Stands-inner (to_le_bytes w64 pair.1) (pair_bytes pair) section 8 (16 * k) (16 * k + 8) refl
+      (Stands-last (to_le_bytes w64 pair.0) (to_le_bytes w64 pair.1) 8 refl) (Stands-pair k within)) fits.1)
 
   end_back : u64_le_at section (16 * length avail + 8) ≡ 0
   end_back =
-      u64_le_at-Stands section (16 * length avail + 8) 0 (Stands-inner (to_le_bytes w64 0) (replicate 16 0) section 8 (16 * length avail) (16 * length avail + 8) refl (Stands-last (to_le_bytes w64 0) (to_le_bytes w64 0) 8 refl) Stands-zeros) (omega arith)
+      u64_le_at-Stands section (16 * length avail + 8) 0 (Stands-inner (to_le_bytes w64 0) (replicate 16 0) section 8 (16 * length avail)
+      (16 * length avail + 8) refl (Stands-last (to_le_bytes w64 0) (to_le_bytes w64 0) 8 refl) Stands-zeros) (omega arith)
 
   abbrev count : ℕ
   count = length section / 16
@@ -109,6 +112,7 @@ module _ (m : MachineImage) (valid : IsValid m) where
       let good = λ (k : ℕ) (within : k < length zipped).
       let inside : k < length m.avail = omega arith in
       ap is_bad (get_or-beside end_page m.avail k (0, 0) inside)
-      ∙ not_bad (get_or (0 ∷ map end_page m.avail) k 0) (get_or (0 ∷ map pair_end m.avail) k 0) (get_or m.avail k (0, 0)) (ends_before m.avail k inside) (pair_after m valid k inside (0, 0)) (pair_whole m valid k inside (0, 0)) in
+      ∙ not_bad (get_or (0 ∷ map end_page m.avail) k 0) (get_or (0 ∷ map pair_end m.avail) k 0) (get_or m.avail k (0, 0)) (ends_before m.avail k inside)
+      (pair_after m valid k inside (0, 0)) (pair_whole m valid k inside (0, 0)) in
       let place : position_or_len is_bad zipped ≡ length zipped = position_or_len_is is_bad zipped (length zipped) (0, (0, 0)) (omega arith) good (λ h. absurd (omega arith)) in
       grind (arith, nat_tests)

@@ -1,5 +1,6 @@
 mod AvailBack
 mod BitmapBits
+mod Digits
 mod DumpedPages
 mod ImageWords
 mod Limits

@@ -39,7 +39,8 @@ pair_whole m valid k within d = IsRange-from_test (get_or m.avail k d) (pairs_pa
 pub pair_after : (m : MachineImage) → IsValid m → (k : ℕ) → k < length m.avail → (d : ℕ × ℕ) → get_or (0 ∷ map pair_end m.avail) k 0 ≤ (get_or m.avail k d).0
 pair_after m valid k within d =
     let in_order = (rules_kept m valid.unbroken).pairs_in_order in
-    let test : pair_begins_at_or_after (get_or (beside_the_one_before pair_end m.avail) k (0, d)) ≡ true = passes pair_begins_at_or_after (beside_the_one_before pair_end m.avail) in_order k (omega (arith, length-beside pair_end m.avail)) (0, d) in
+    let test : pair_begins_at_or_after (get_or (beside_the_one_before pair_end m.avail) k (0, d)) ≡ true =
+    passes pair_begins_at_or_after (beside_the_one_before pair_end m.avail) in_order k (omega (arith, length-beside pair_end m.avail)) (0, d) in
     let here : pair_begins_at_or_after (get_or (0 ∷ map pair_end m.avail) k 0, get_or m.avail k d) ≡ true = ap pair_begins_at_or_after (sym (get_or-beside pair_end m.avail k d within)) ∙ test in
     grind (arith, nat_tests, here)
 
@@ -55,7 +56,8 @@ pub record IsInSegment (m : MachineImage) (pair : ℕ × ℕ) : Type 0 where
 pub pair_inside : (m : MachineImage) → IsValid m → (k : ℕ) → k < length m.avail → (d : ℕ × ℕ) → IsInSegment m (get_or m.avail k d)
 pair_inside m valid k within d =
     let pair : ℕ × ℕ = get_or m.avail k d in
-    let any = Any-from_list_any (λ (seg : Seg). nat_le seg.start pair.0 && nat_le pair.1 (end_of seg)) m.segs (passes (lies_in_segment m.segs) m.avail (rules_kept m valid.unbroken).pairs_inside k within d) in
+    let any = Any-from_list_any (λ (seg : Seg). nat_le seg.start pair.0 && nat_le pair.1 (end_of seg)) m.segs
+    (passes (lies_in_segment m.segs) m.avail (rules_kept m valid.unbroken).pairs_inside k within d) in
     let seg : Seg = any.1 in
     let test : (nat_le seg.start pair.0 && nat_le pair.1 (end_of seg)) ≡ true = any.4 in
     record { seg = seg; index = any.0; within = any.2; is = any.3; from = grind (arith, nat_tests, test); to = grind (arith, nat_tests, test) }

@@ -112,7 +112,8 @@ module _ (m : MachineImage) (valid : IsValid m) where
   -- the ranges and their pages
   ranges_back : ranges_of file header ≡ m.avail
   ranges_back =
-      ap (λ (section : List ℕ). pairs_in section header.dumpavailsize) (range-Stands (ranges m windows) file (places_of header).avail header.dumpavailsize (Stands-ranges m windows) (length-ranges m windows))
+      ap (λ (section : List ℕ). pairs_in section header.dumpavailsize)
+      (range-Stands (ranges m windows) file (places_of header).avail header.dumpavailsize (Stands-ranges m windows) (length-ranges m windows))
       ∙ ap (pairs_in (ranges m windows)) (sym (length-ranges m windows))
       ∙ pairs_back m.avail valid.typed.avail (λ k within. omega (arith, pair_whole m valid k within (0, 0)))
 

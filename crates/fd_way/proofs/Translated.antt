@@ -191,7 +191,8 @@ module _ (m : MachineImage) (valid : IsValid m) where
           let index : ℕ = start va % bytes_under leaf.height / unit in
           let larger : height < leaf.height = above_none leaf of_entry in
           let leaf_of_unit : IsUnitLeaf m.arch (expanded_leaf (form_of m) (start va) (Some leaf)) (leaf.address + index * unit) =
-          expanded m.arch leaf.bits leaf.height index leaf.address (short leaf.height (start va) leaf.bits of_entry.below of_entry.entry) (omega (arith, of_entry.below, most_levels m)) larger (unit_within (start va) height leaf.height larger) of_entry.kind in
+          expanded m.arch leaf.bits leaf.height index leaf.address (short leaf.height (start va) leaf.bits of_entry.below of_entry.entry)
+          (omega (arith, of_entry.below, most_levels m)) larger (unit_within (start va) height leaf.height larger) of_entry.kind in
           let inside : index * unit + va % unit ≡ va % bytes_under leaf.height = place_in_leaf height leaf.height va (start va) larger place.same in
           let same_place : leaf.address + index * unit + (va - m.windows.kernbase) % unit ≡ leaf.address + va % bytes_under leaf.height = omega (arith, place.inside, inside) in
           record {
@@ -221,7 +222,8 @@ module _ (m : MachineImage) (valid : IsValid m) where
 
     agrees : Agrees va (walk.directory_entry tables (form_of m) (start va))
     agrees =
-        let same : entry_at tables height va ≡ entry_at tables height (start va) = entry_at-same tables height va (start va) place.same (levels_of m - height - 1) height (omega arith) (omega (arith, some_levels m)) in
+        let same : entry_at tables height va ≡ entry_at tables height (start va) =
+        entry_at-same tables height va (start va) place.same (levels_of m - height - 1) height (omega arith) (omega (arith, some_levels m)) in
         by_option (entry_at tables height (start va)) same
 
     -- the entry is read in the file
@@ -237,7 +239,8 @@ module _ (m : MachineImage) (valid : IsValid m) where
         subst (λ number. Stands (to_le_bytes w64 (entry number)) (8 * index) (directory_of m)) at
         (Stands-piece (λ (number : ℕ). to_le_bytes w64 (entry number)) 8 (range_with_len 0 (entry_count m)) index 0 (λ number. refl) (omega (arith, length-range_with_len 0 (entry_count m)))) in
         u64_le_at-Stands file ((places_of header).directory + 8 * index) (entry index)
-        (Stands-inner (to_le_bytes w64 (entry index)) (directory_of m) file (8 * index) (places_of header).directory ((places_of header).directory + 8 * index) refl piece (Stands-directory m (windows_of m valid)))
+        (Stands-inner (to_le_bytes w64 (entry index)) (directory_of m) file (8 * index) (places_of header).directory
+        ((places_of header).directory + 8 * index) refl piece (Stands-directory m (windows_of m valid)))
         agrees.fits
 
     pub by_directory_is : index < entry_count m → by_directory file sections va ≡ by_tables m va

@@ -80,7 +80,9 @@ same_window Riscv w va windows =
     let span : w.kernspan % bytes_under 1 ≡ 0 = windows.kernspan in grind (arith, nat_tests)
 
 -- where an address stands in a larger leaf: in its unit, behind the units before
-pub place_in_leaf : (low high va v : ℕ) → low < high → va / bytes_under low ≡ v / bytes_under low → v % bytes_under high / bytes_under low * bytes_under low + va % bytes_under low ≡ va % bytes_under high
+pub place_in_leaf :
+    (low high va v : ℕ) → low < high → va / bytes_under low ≡ v / bytes_under low
+    → v % bytes_under high / bytes_under low * bytes_under low + va % bytes_under low ≡ va % bytes_under high
 place_in_leaf low high va v larger same =
     let more : ℕ = 9 * (high - low) in
     let exponent : 12 + 9 * high ≡ more + (12 + 9 * low) = omega arith in

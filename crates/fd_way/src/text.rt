@@ -1,5 +1,6 @@
 //! The printed text of a read of kernel memory.
-ghost use Rattle.std.specs.Prelude.{◌≡◌, ◌≤◌, ◌+◌, ◌^◌, ◌++◌, length, IfOk, OnOk};
+ghost use Rattle.std.specs.Prelude.{◌≡◌, ◌<◌, ◌≤◌, ◌+◌, ◌^◌, ◌++◌, false, length, IfOk, OnOk};
+ghost use Rattle.std.specs.Fmt.{digit_glyph};
 ghost use Rattle.std.specs.String.{string_bytes};
 ghost use Rattle.fd_bytes.specs.Printed.{hex};
 ghost use Rattle.fd_way.specs.ReadText.{byte_text, line_of, read_text};
@@ -18,12 +19,26 @@ fn put_address(text: &mut String, va: u64) -> Result<(), AllocError>
     write!(text, "{va:016x}")
 }
 
+// The hexadecimal digit of a number.
+fn digit(value: u8) -> char
+    requires { value < 16 }
+    ensures digit { result ≡ digit_glyph false value }
+    ensures ascii { result < 128 }
+{
+    char::from(if value < 10 {
+        b'0' + value
+    } else {
+        b'a' + (value - 10)
+    })
+}
+
 // Appends a space, and a byte in two digits.
-#[tactic(auto, using(fd_bytes::proofs::Hex::padded_hex))]
 fn put_byte(text: &mut String, byte: u8) -> Result<(), AllocError>
     ensures { OnOk result (string_bytes text.new ≡ string_bytes text.old ++ byte_text byte) }
 {
-    write!(text, " {byte:02x}")
+    text.push(' ')?;
+    text.push(digit(byte / 16))?;
+    text.push(digit(byte % 16))
 }
 
 // Appends a line.

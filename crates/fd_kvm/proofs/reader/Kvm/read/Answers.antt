@@ -1,3 +1,4 @@
+-- The read goes on from run to run, or ends at the first address that has no byte.
 use Rattle.std.proofs.Common.{◌≡◌, ℕ, ◌+◌, ◌-◌, List, length, take, Err, refl, sym, ap, subst, ◌∙◌, arith}
 use borrow.Rule.Slice.PartMut.{put_mid}
 use Rattle.std.proofs.lemmas.List.{length-append, length-take-le, take_rest}
@@ -39,11 +40,13 @@ loop-at-preserved g c =
     let written = rest_written out rest at in
     record {
       inside =
-          let size : length (put_mid at (length out - at) out rest) ≡ at + length rest = ap (λ (l : List ℕ). length l) written ∙ length-append (take at out) rest ∙ ap (λ n. n + length rest) (length-take-le at out inv.inside) in
+          let size : length (put_mid at (length out - at) out rest) ≡ at + length rest = ap (λ (l : List ℕ). length l) written
+          ∙ length-append (take at out) rest ∙ ap (λ n. n + length rest) (length-take-le at out inv.inside) in
           omega (arith, c.in_ok-at.ensures.inside, c.read_run.auto.out);
       front = λ told is f there.
           let step = subst (λ l. IsFront (byte_in f s) (c.args.va + at) l rest count) (take_rest out at) (c.in_ok-at.ensures.step told (inv.untouched.told ∙ is) f there) in
-          subst (λ l. IsFront (byte_in f s) c.args.va c.args.out.now l (at + count)) (sym written) (front_more (byte_in f s) c.args.va at count c.args.out.now out rest (inv.front told is f there) inv.inside step);
+          subst (λ l. IsFront (byte_in f s) c.args.va c.args.out.now l (at + count)) (sym written)
+          (front_more (byte_in f s) c.args.va at count c.args.out.now out rest (inv.front told is f there) inv.inside step);
       untouched =
           let read = c.in_ok-at.ensures.untouched in
           let before = inv.untouched in

@@ -1,3 +1,4 @@
+-- The bytes before a place are read, and those behind it are as they were.
 use Rattle.std.proofs.Common.{◌≡◌, ℕ, ◌≤◌, ◌-◌, length, List, Some}
 use Rattle.fd_site.specs.Contents.{Told, file_of}
 use Rattle.fd_site.specs.Seen.{Untouched}
