@@ -1,20 +1,11 @@
 //! A set of bits.
 
-ghost use Rattle.std.specs.Prelude.{◌≡◌, ◌*◌, ◌<◌, ◌≤◌, ◌^◌, List, false, true, length, take, replicate, slice_get, slice_set, unwrap_or, IfOk};
-ghost use Rattle.fd_bitmap.specs.Bits.{bits_of, byte_at, set_count, low_bits};
+ghost use Rattle.std.specs.Prelude.{◌≡◌, ◌+◌, ◌-◌, ◌*◌, ◌<◌, ◌≤◌, ◌^◌, List, false, true, length, take, replicate, slice_get, slice_set, unwrap_or, IfOk};
+ghost use Rattle.fd_bitmap.specs.Bits.{bits_of, byte_at, word_at, with_run, set_count, low_bits};
 
+use crate::words::word_in;
 use std::alloc::{AllocError, Global};
 use std::marker::Model;
-
-/// No memory was left.
-#[derive(Clone, Copy, Debug, PartialEq, Eq, Drop)]
-pub struct NoMemory;
-
-impl From<AllocError> for NoMemory {
-    fn from(_error: AllocError) -> NoMemory {
-        NoMemory
-    }
-}
 
 /// A list of bits, kept in bytes: bit i is bit i mod 8 of byte i / 8.
 #[derive(Drop)]
@@ -36,21 +27,31 @@ impl Model for Bitmap {
 
 impl Bitmap {
     /// So many bits, all clear.
-    pub fn new(alloc: Global, bits: u64) -> Result<Bitmap, NoMemory>
+    pub fn new(alloc: Global, bits: u64) -> Result<Bitmap, AllocError>
         ensures { IfOk result (λ map. map ≡ replicate bits false) }
     {
-        let bytes = vec![in alloc; 0u8; bits.div_ceil(8) as usize]?;
+        let bytes = vec![in alloc; 0u8; 8 * bits.div_ceil(64) as usize]?;
         Ok(Bitmap { bytes, bits })
     }
 
     /// Eight bits for each byte, its lowest bit first.
-    pub fn from_bytes(alloc: Global, bytes: &[u8]) -> Result<Bitmap, NoMemory>
+    pub fn from_bytes(alloc: Global, bytes: &[u8]) -> Result<Bitmap, AllocError>
         ensures { IfOk result (λ map. map ≡ bits_of bytes.now) }
     {
-        let Some(bits) = (bytes.len() as u64).checked_mul(8) else {
-            return Err(NoMemory);
+        Bitmap::from_vec(bytes.to_vec(alloc)?)
+    }
+
+    /// Eight bits for each byte, its lowest bit first. Where the bytes are no whole words, memory may be
+    /// taken for up to seven more. The bytes aren't copied else.
+    pub fn from_vec(mut bytes: Vec<u8>) -> Result<Bitmap, AllocError>
+        ensures { IfOk result (λ map. map ≡ bits_of bytes.items) }
+    {
+        let len = bytes.len();
+        let Some(bits) = (len as u64).checked_mul(8) else {
+            return Err(AllocError);
         };
-        let bytes = bytes.to_vec(alloc)?;
+        let more = (8 - len % 8) % 8;
+        bytes.extend_from_slice(&[0; 7][..more])?;
         Ok(Bitmap { bytes, bits })
     }
 
@@ -60,6 +61,16 @@ impl Bitmap {
         ensures { self.new ≡ slice_set self.old bit true }
     {
         self.bytes[(bit / 8) as usize] |= 1 << (bit % 8);
+    }
+
+    /// Sets so many bits, from this one on, and changes no other. Whole bytes are set at once.
+    pub fn set_range(&mut self, from: u64, count: u64)
+        requires { from + count ≤ length self.old }
+        ensures bits { self.new ≡ with_run self.old from count }
+        ensures len { length self.new ≡ length self.old }
+    {
+        let end = self.bits.min(from.saturating_add(count));
+        set_run(self.bytes.as_mut_slice(), from, end);
     }
 
     /// Clears every bit.
@@ -80,7 +91,11 @@ impl Bitmap {
     pub fn count(&self) -> u64
         ensures { result ≡ set_count self.now }
     {
-        set_below(self.bytes.as_slice(), self.bits)
+        let mut count = 0;
+        for at in 0..self.len().div_ceil(64) {
+            count += u64::from(self.word_at(at).count_ones());
+        }
+        count
     }
 
     /// How many bits below this one are set. Takes no memory.
@@ -88,6 +103,20 @@ impl Bitmap {
         ensures { result ≡ set_count (take bit self.now) }
     {
         set_below(self.bytes.as_slice(), bit.min(self.bits))
+    }
+
+    /// The word at this place, its lowest bit first. Zero past the end.
+    pub(crate) fn word_at(&self, at: u64) -> u64
+        ensures { result ≡ word_at self.now at }
+    {
+        word_in(self.bytes.as_slice(), at)
+    }
+
+    /// How many bits there are.
+    pub(crate) fn len(&self) -> u64
+        ensures { result ≡ length self.now }
+    {
+        self.bits
     }
 
     /// The byte at this place, its lowest bit first. Zero past the end.
@@ -98,6 +127,36 @@ impl Bitmap {
             Some(byte) => *byte,
             None => 0,
         }
+    }
+}
+
+/// Sets the bits from one place to another: whole bytes at once, and up to seven bits on each side.
+fn set_run(bytes: &mut [u8], from: u64, end: u64)
+    requires order { from ≤ end }
+    requires within { end ≤ 8 * length bytes.old }
+    ensures bits { bits_of bytes.new ≡ with_run (bits_of bytes.old) from (end - from) }
+    ensures len { length bytes.new ≡ length bytes.old }
+{
+    let first = from.div_ceil(8);
+    let last = end / 8;
+    if last < first {
+        set_each(bytes, from, end);
+        return;
+    }
+    set_each(bytes, from, 8 * first);
+    bytes[first as usize..last as usize].fill(0xff);
+    set_each(bytes, 8 * last, end);
+}
+
+/// Sets the bits from one place to another, bit by bit.
+fn set_each(bytes: &mut [u8], from: u64, end: u64)
+    requires order { from ≤ end }
+    requires within { end ≤ 8 * length bytes.old }
+    ensures bits { bits_of bytes.new ≡ with_run (bits_of bytes.old) from (end - from) }
+    ensures len { length bytes.new ≡ length bytes.old }
+{
+    for bit in from..end {
+        bytes[(bit / 8) as usize] |= 1 << (bit % 8);
     }
 }
 
@@ -127,40 +186,4 @@ fn set_in(bytes: &[u8]) -> u64
         count += u64::from(byte.count_ones());
     }
     count
-}
-
-#[cfg(test)]
-mod tests {
-    use super::*;
-    use std::test::Fail;
-
-    #[test]
-    fn bits_fill_bytes_from_the_lowest(rt: HostRuntime) -> Result<(), Fail> {
-        let mut map = Bitmap::new(rt.alloc(), 10)?;
-        map.set(0);
-        for bit in 3..8 {
-            map.set(bit);
-        }
-        map.set(9);
-        assert_eq!(rt; map.byte(0), 0xf9);
-        assert_eq!(rt; map.byte(1), 2);
-        assert_eq!(rt; map.byte(2), 0);
-        assert_eq!(rt; map.count(), 7);
-        assert_eq!(rt; map.count_below(5), 3);
-        assert_eq!(rt; map.count_below(u64::MAX), 7);
-        assert!(rt; map.has(9) && !map.has(8) && !map.has(10) && !map.has(u64::MAX));
-        map.clear_all();
-        assert_eq!(rt; map.count(), 0);
-        Ok(())
-    }
-
-    #[test]
-    fn bytes_are_read_as_they_were_given(rt: HostRuntime) -> Result<(), Fail> {
-        let map = Bitmap::from_bytes(rt.alloc(), &[0xf9, 0x80])?;
-        assert_eq!(rt; (map.byte(0), map.byte(1), map.byte(2)), (0xf9, 0x80, 0));
-        assert!(rt; map.has(15) && !map.has(14) && map.has(0) && !map.has(1));
-        assert_eq!(rt; map.count_below(8), 6);
-        assert_eq!(rt; map.count(), 7);
-        Ok(())
-    }
 }

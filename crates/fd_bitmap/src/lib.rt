@@ -6,8 +6,14 @@
 mod avail;
 mod bitmap;
 pub mod laws;
+mod rank;
 mod steps;
+#[cfg(test)]
+mod tests;
+mod words;
 
 pub use avail::{Avail, AvailFault};
-pub use bitmap::{Bitmap, NoMemory};
+pub use bitmap::Bitmap;
+pub use rank::RankIndex;
 pub use steps::{Counted, Steps};
+pub use words::Words;

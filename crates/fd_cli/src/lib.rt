@@ -6,6 +6,7 @@
 mod answer;
 mod command;
 mod dump_image;
+mod invocation;
 mod judge_partition;
 mod read_memory;
 mod refusal;
@@ -16,6 +17,7 @@ mod word;
 
 pub use answer::Answer;
 pub use command::Command;
+pub use invocation::{Invocation, read_invocation};
 pub use refusal::Refusal;
 pub use run::crashway;
 pub use word::Word;

@@ -9,11 +9,12 @@ use Rattle.std.proofs.lemmas.Bool.Decides.{nat_tests}
 use Rattle.std.proofs.lemmas.List.Sums.{sum_by-cons}
 use Rattle.fd_bytes.specs.declared.arch.Arch.{Arch}
 use Rattle.fd_bytes.specs.declared.arch.Arch.TheVariants.{Amd64, Arm64, Riscv}
+use Rattle.fd_bytes.specs.Profile.{profile_of}
 use Rattle.fd_image.specs.declared.parts.Windows.{Windows}
 use Rattle.fd_image.specs.declared.parts.Seg.{Seg}
-use Rattle.fd_image.specs.Image.{MachineImage, IsValid, is_within_limits, is_kernel_window, is_direct_map, is_range_of_pages, lies_in_segment, ragged_pair, direct_map_end, end_of}
+use Rattle.fd_image.specs.Image.{MachineImage, levels_of, IsValid, is_within_limits, is_kernel_window, is_direct_map, is_range_of_pages, lies_in_segment, ragged_pair, direct_map_end, end_of}
 use Rattle.fd_image.proofs.Valid.{rules_kept, kept, passes}
-use Rattle.fd_pte.specs.Architecture.{directory_height_of, levels_of}
+use Rattle.fd_pte.specs.Architecture.{directory_height_of}
 use Rattle.fd_pte.specs.Entry.{bytes_under}
 
 -- the kernel window has whole pages of the directory, and few enough entries
@@ -124,11 +125,11 @@ pub record IsTall (levels height : ℕ) : Type 0 where
   pub most_levels : levels ≤ 4
   pub low : height + 2 ≤ levels
 
-pub tall : (arch : Arch) → IsTall (levels_of arch) (directory_height_of arch)
+tall : (arch : Arch) → IsTall (profile_of arch).levels (directory_height_of arch)
 tall Amd64 = record { some_levels = lit≤ tt; most_levels = lit≤ tt; low = lit≤ tt }
 tall Arm64 = record { some_levels = lit≤ tt; most_levels = lit≤ tt; low = lit≤ tt }
 tall Riscv = record { some_levels = lit≤ tt; most_levels = lit≤ tt; low = lit≤ tt }
 
--- the same of the levels and the height of entries that serve the architecture
-pub tall_of : (levels height : ℕ) (arch : Arch) → levels ≡ levels_of arch → height ≡ directory_height_of arch → IsTall levels height
-tall_of levels height arch is_levels is_height = rw (is_levels, is_height) (tall arch)
+-- the same of the levels and the height of entries that serve an image
+pub tall_of : (levels height : ℕ) (m : MachineImage) → levels ≡ levels_of m → height ≡ directory_height_of m.arch → IsTall levels height
+tall_of levels height m is_levels is_height = rw (is_levels, is_height) (tall m.arch)

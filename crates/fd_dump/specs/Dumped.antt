@@ -1,14 +1,14 @@
 -- The pages of a machine image that its dump has: those that are available and lie in the direct map, and are wanted,
 -- or mapped in the kernel window, or, on amd64, hold a last-level table of that window.
 -- Source: the kernel's minidump_machdep.c of each architecture; that pages can be wanted is this project's own.
-use Rattle.std.specs.Prelude.{ℕ, ◌+◌, ◌*◌, Bool, true, false, ◌&&◌, ◌||◌, ◌==◌, nat_le, nat_lt, List, map}
+use Rattle.std.specs.Prelude.{ℕ, ◌+◌, ◌*◌, Bool, ◌&&◌, ◌||◌, ◌==◌, nat_le, nat_lt, List, map}
 use Rattle.std.specs.List.{filter, list_any}
 use Rattle.fd_bytes.specs.declared.arch.Arch.{Arch}
-use Rattle.fd_bytes.specs.declared.arch.Arch.TheVariants.{Amd64, Arm64, Riscv}
-use Rattle.fd_image.specs.Image.{MachineImage, direct_map_end}
+use Rattle.fd_bytes.specs.Profile.{profile_of}
+use Rattle.fd_image.specs.Image.{MachineImage, levels_of, direct_map_end}
 use Rattle.fd_image.specs.Physical.{word_of}
 use Rattle.fd_image.specs.declared.parts.Windows.{Windows}
-use Rattle.fd_pte.specs.Architecture.{kind_of, levels_of}
+use Rattle.fd_pte.specs.Architecture.{kind_of}
 use Rattle.fd_walk.specs.PageTables.{PageTables, tables_of}
 use Rattle.fd_walk.specs.Ranges.{leaves_in, last_tables_in}
 use Rattle.fd_walk.specs.declared.leaf.Leaf.{Leaf}
@@ -16,7 +16,7 @@ use Rattle.fd_bitmap.specs.Pages.{pages_of}
 
 -- the image's page tables
 abbrev pub tables_in : MachineImage → PageTables
-tables_in m = tables_of (word_of m) (kind_of m.arch) (levels_of m.arch) m.root
+tables_in m = tables_of (word_of m) (kind_of m.arch) (levels_of m) m.root
 
 -- a physical address lies in a range of available memory
 abbrev pub is_available : MachineImage → ℕ → Bool
@@ -40,9 +40,7 @@ is_mapped m page = list_any (is_under_leaf page) (leaves_in (tables_in m) m.wind
 
 -- whether the last-level tables of the kernel window are dumped, because the directory ends above them
 abbrev pub dumps_last_tables : Arch → Bool
-dumps_last_tables Amd64 = true
-dumps_last_tables Arm64 = false
-dumps_last_tables Riscv = false
+dumps_last_tables arch = (profile_of arch).dumps_last_tables
 
 -- a page holds a last-level table of the kernel window
 abbrev pub is_last_table : MachineImage → ℕ → Bool

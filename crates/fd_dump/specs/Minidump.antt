@@ -4,13 +4,13 @@
 use Rattle.std.specs.Prelude.{ℕ, ◌-◌, ◌*◌, ◌/◌, Bool, List, ◌++◌, length, map, replicate}
 use Rattle.std.specs.Int.{w64, to_le_bytes, div_ceil}
 use Rattle.std.specs.List.{concat, filter_map, flat_map, range_with_len}
+use Rattle.fd_bytes.specs.Profile.{profile_of}
 use Rattle.fd_image.specs.Image.{MachineImage}
 use Rattle.fd_image.specs.Physical as physical
 use Rattle.fd_pte.specs.Architecture.{directory_height_of, expansion_of}
 use Rattle.fd_pte.specs.Entry.{bytes_under}
 use Rattle.fd_walk.specs.Directory.{DirectoryForm, directory_form, directory_bytes}
 use Rattle.fd_bitmap.specs.Bits.{byte_at}
-use Rattle.fd_mini.specs.Layout.{layout_of}
 use Rattle.fd_mini.specs.Page as mini
 use Rattle.fd_mini.specs.Places.{rounded_up}
 use Rattle.fd_mini.specs.declared.header.MiniHeader.{MiniHeader}
@@ -47,7 +47,7 @@ memory_of m = concat (filter_map (physical.page_of m) (dumped_pages m))
 abbrev pub mini_header_of : MachineImage → MiniHeader
 mini_header_of m = record {
   arch = m.arch;
-  version = (layout_of m.arch).version;
+  version = (profile_of m.arch).minidump_version;
   msgbufsize = length m.texts.msgbuf;
   bitmapsize = rounded_up (div_ceil (length (dumped_bits m)) 8);
   pmapsize = 8 * entry_count m;

@@ -4,7 +4,6 @@ ghost use Rattle.std.specs.Int.{div_ceil};
 ghost use Rattle.fd_bitmap.specs.Pages.{pages_of};
 ghost use Rattle.fd_pte.specs.Architecture.{directory_height_of};
 ghost use Rattle.fd_pte.specs.Entry.{bytes_under};
-ghost use Rattle.fd_mini.specs.Layout.{layout_of};
 ghost use Rattle.fd_mini.specs.Places.{rounded_up};
 ghost use Rattle.fd_dump.specs.Minidump.{entry_count, mini_header_of};
 
@@ -23,7 +22,7 @@ pub(crate) fn mini_header(image: &Image, bits: u64) -> MiniHeader
     let windows = image.windows();
     MiniHeader {
         arch,
-        version: version_of(arch),
+        version: arch.profile().minidump_version,
         msgbufsize: image.texts().msgbuf.len() as u32,
         bitmapsize: rounded_up(bits.div_ceil(8)),
         pmapsize: directory_size(image),
@@ -33,16 +32,6 @@ pub(crate) fn mini_header(image: &Image, bits: u64) -> MiniHeader
         dmapend: windows.dmapend,
         dumpavailsize: rounded_up(16 * image.avail().len() as u64 + 16),
         flags: 0,
-    }
-}
-
-/// The current version of an architecture's header page.
-fn version_of(arch: Arch) -> u32
-    ensures { result ≡ (layout_of arch).version }
-{
-    match arch {
-        Arch::Amd64 | Arch::Arm64 => 3,
-        Arch::Riscv => 2,
     }
 }
 

@@ -20,7 +20,7 @@ pub(crate) fn minidump<E: Entry, const LEVELS: usize>(
     alloc: Global,
     image: &Image,
 ) -> Result<Vec<u8>, AllocError>
-    requires { Serves E.kind_of E.DIRECTORY_HEIGHT E.expansion LEVELS image.now.arch }
+    requires { Serves E.kind_of E.DIRECTORY_HEIGHT E.expansion LEVELS image.now }
     ensures { IfOk result (λ bytes. bytes.items ≡ minidump_of image.now) }
 {
     let texts = image.texts();

@@ -1,15 +1,13 @@
 //! The bitmap of the dumped pages.
 ghost use Rattle.std.specs.Prelude.{◌≡◌, ◌==◌, ◌&&◌, ◌*◌, ◌≤◌, ◌<◌, ◌^◌, Bool, nat_le, nat_lt, length, IfOk};
 ghost use Rattle.std.specs.List.{list_any};
-ghost use Rattle.std.specs.List.Sorted.{IsStrictlyIncreasing};
 ghost use Rattle.fd_image.specs.Image.{direct_map_end};
 ghost use Rattle.fd_bitmap.specs.Pages.{pages_of};
 ghost use Rattle.fd_dump.specs.Dumped.{is_reached, is_under_leaf, is_mapped, is_last_table, dumps_last_tables, dumped_bits};
 ghost use Rattle.fd_dump.specs.Serves.{Serves};
 ghost use Rattle.fd_dump.specs.Marks.{marked};
 
-use fd_bitmap::{Avail, Bitmap, NoMemory};
-use fd_bytes::Arch;
+use fd_bitmap::{Avail, Bitmap};
 use fd_image::{Image, Windows};
 use fd_pte::Entry;
 use fd_walk::{Leaf, Walker};
@@ -31,10 +29,10 @@ fn is_reached(windows: &Windows, pa: u64) -> bool
     windows.dmapphys <= pa && pa < direct_map_end(windows)
 }
 
-/// Sets the bit of the page that begins at this address, if there is one that the direct map reaches.
+/// Sets the bit of the page that begins at this address, if there is one that the direct map reaches. `near` is the
+/// range at which the call before ended, here and below.
 #[tactic(auto, using(crate::proofs::Marking::marks))]
-fn mark(map: &mut Bitmap, avail: &Avail, windows: &Windows, pa: u64)
-    requires rising { IsStrictlyIncreasing avail.now }
+fn mark(map: &mut Bitmap, avail: &Avail, windows: &Windows, pa: u64, near: &mut usize)
     requires bits { length map.old ≡ length avail.now }
     requires low { direct_map_end windows.now ≤ 2 ^ 56 }
     ensures marks { map.new ≡ marked windows.now (λ address. pa == address) avail.now map.old }
@@ -43,44 +41,26 @@ fn mark(map: &mut Bitmap, avail: &Avail, windows: &Windows, pa: u64)
     if pa % 4096 != 0 || !is_reached(windows, pa) {
         return;
     }
-    if let Some(bit) = avail.bit_of(pa) {
-        map.set(bit);
-    }
+    let page = pa / 4096;
+    avail.set_pages(map, page, page + 1, near);
 }
 
 /// Sets the bits of the wanted pages.
 #[tactic(auto, using(crate::proofs::Marking::loops))]
 fn mark_wanted(map: &mut Bitmap, avail: &Avail, windows: &Windows, wanted: &[u64])
-    requires rising { IsStrictlyIncreasing avail.now }
     requires bits { length map.old ≡ length avail.now }
     requires low { direct_map_end windows.now ≤ 2 ^ 56 }
     ensures marks { map.new ≡ marked windows.now (λ address. list_any (λ page. page == address) wanted.now) avail.now map.old }
     ensures bits { length map.new ≡ length map.old }
 {
+    let mut near = 0;
     for page in wanted {
-        mark(map, avail, windows, *page);
-    }
-}
-
-/// Sets the bits of the pages with the numbers from `first` up to `end`.
-#[tactic(auto, using(crate::proofs::Marking::loops))]
-fn mark_pages(map: &mut Bitmap, avail: &Avail, windows: &Windows, first: u64, end: u64)
-    requires rising { IsStrictlyIncreasing avail.now }
-    requires bits { length map.old ≡ length avail.now }
-    requires low { direct_map_end windows.now ≤ 2 ^ 56 }
-    requires end { end ≤ 2 ^ 44 }
-    ensures marks { map.new ≡ marked windows.now (λ address. nat_le (first * 4096) address && nat_lt address (end * 4096)) avail.now map.old }
-    ensures bits { length map.new ≡ length map.old }
-{
-    for page in first..end {
-        mark(map, avail, windows, page * 4096);
+        mark(map, avail, windows, *page, &mut near);
     }
 }
 
 /// Sets the bits of the pages that a leaf maps.
-#[tactic(auto, using(crate::proofs::Marking::loops))]
-fn mark_leaf(map: &mut Bitmap, avail: &Avail, windows: &Windows, leaf: &Leaf)
-    requires rising { IsStrictlyIncreasing avail.now }
+fn mark_leaf(map: &mut Bitmap, avail: &Avail, windows: &Windows, leaf: &Leaf, near: &mut usize)
     requires bits { length map.old ≡ length avail.now }
     requires low { direct_map_end windows.now ≤ 2 ^ 56 }
     ensures marks { map.new ≡ marked windows.now (λ address. is_under_leaf address leaf.now) avail.now map.old }
@@ -92,13 +72,7 @@ fn mark_leaf(map: &mut Bitmap, avail: &Avail, windows: &Windows, leaf: &Leaf)
         .pa
         .saturating_add(leaf.size)
         .min(direct_map_end(windows));
-    mark_pages(
-        map,
-        avail,
-        windows,
-        start.div_ceil(4096),
-        end.div_ceil(4096),
-    );
+    avail.set_pages(map, start.div_ceil(4096), end.div_ceil(4096), near);
 }
 
 /// Sets the bits of the pages that the kernel window maps.
@@ -109,21 +83,21 @@ fn mark_mapped<E: Entry, const LEVELS: usize>(
     windows: &Windows,
     image: &Image,
 )
-    requires serves { Serves E.kind_of E.DIRECTORY_HEIGHT E.expansion LEVELS image.now.arch }
+    requires serves { Serves E.kind_of E.DIRECTORY_HEIGHT E.expansion LEVELS image.now }
     requires windows { windows.now ≡ image.now.windows }
     requires low { direct_map_end windows.now ≤ 2 ^ 56 }
-    requires rising { IsStrictlyIncreasing avail.now }
     requires bits { length map.old ≡ length avail.now }
     ensures marks { map.new ≡ marked windows.now (is_mapped image.now) avail.now map.old }
     ensures bits { length map.new ≡ length map.old }
 {
+    let mut near = 0;
     for leaf in Walker::<E, LEVELS>::leaves(
         image,
         image.root(),
         windows.kernbase,
         windows.kernspan,
     ) {
-        mark_leaf(map, avail, windows, &leaf);
+        mark_leaf(map, avail, windows, &leaf, &mut near);
     }
 }
 
@@ -135,31 +109,21 @@ fn mark_last_tables<E: Entry, const LEVELS: usize>(
     windows: &Windows,
     image: &Image,
 )
-    requires serves { Serves E.kind_of E.DIRECTORY_HEIGHT E.expansion LEVELS image.now.arch }
+    requires serves { Serves E.kind_of E.DIRECTORY_HEIGHT E.expansion LEVELS image.now }
     requires windows { windows.now ≡ image.now.windows }
     requires low { direct_map_end windows.now ≤ 2 ^ 56 }
-    requires rising { IsStrictlyIncreasing avail.now }
     requires bits { length map.old ≡ length avail.now }
     ensures marks { map.new ≡ marked windows.now (is_last_table image.now) avail.now map.old }
     ensures bits { length map.new ≡ length map.old }
 {
+    let mut near = 0;
     for table in Walker::<E, LEVELS>::tables(
         image,
         image.root(),
         windows.kernbase,
         windows.kernspan,
     ) {
-        mark(map, avail, windows, table);
-    }
-}
-
-/// Whether the last-level tables of the kernel window are dumped, because the directory ends above them.
-fn dumps_last_tables(arch: Arch) -> bool
-    ensures { result ≡ dumps_last_tables arch }
-{
-    match arch {
-        Arch::Amd64 => true,
-        Arch::Arm64 | Arch::Riscv => false,
+        mark(map, avail, windows, table, &mut near);
     }
 }
 
@@ -171,14 +135,13 @@ fn mark_dumped_tables<E: Entry, const LEVELS: usize>(
     windows: &Windows,
     image: &Image,
 )
-    requires serves { Serves E.kind_of E.DIRECTORY_HEIGHT E.expansion LEVELS image.now.arch }
+    requires serves { Serves E.kind_of E.DIRECTORY_HEIGHT E.expansion LEVELS image.now }
     requires windows { windows.now ≡ image.now.windows }
     requires low { direct_map_end windows.now ≤ 2 ^ 56 }
-    requires rising { IsStrictlyIncreasing avail.now }
     requires bits { length map.old ≡ length avail.now }
     ensures marks { map.new ≡ marked windows.now (λ address. dumps_last_tables image.now.arch && is_last_table image.now address) avail.now map.old }
 {
-    if dumps_last_tables(image.arch()) {
+    if image.arch().profile().dumps_last_tables {
         mark_last_tables::<E, LEVELS>(map, avail, windows, image);
     }
 }
@@ -189,11 +152,11 @@ pub(crate) fn dumped_bits<E: Entry, const LEVELS: usize>(
     image: &Image,
     avail: &Avail,
 ) -> Result<Bitmap, AllocError>
-    requires serves { Serves E.kind_of E.DIRECTORY_HEIGHT E.expansion LEVELS image.now.arch }
+    requires serves { Serves E.kind_of E.DIRECTORY_HEIGHT E.expansion LEVELS image.now }
     requires pages { avail.now ≡ pages_of image.now.avail }
     ensures { IfOk result (λ map. map ≡ dumped_bits image.now) }
 {
-    let mut map = Bitmap::new(alloc, avail.bits()).map_err(|_none: NoMemory| AllocError)?;
+    let mut map = Bitmap::new(alloc, avail.bits())?;
     let windows = image.windows();
     mark_wanted(&mut map, avail, &windows, image.wanted());
     mark_mapped::<E, LEVELS>(&mut map, avail, &windows, image);

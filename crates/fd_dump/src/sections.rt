@@ -102,7 +102,7 @@ fn put_directory_page<E: Entry, const LEVELS: usize>(
     image: &Image,
     index: u64,
 ) -> Result<(), AllocError>
-    requires serves { Serves E.kind_of E.DIRECTORY_HEIGHT E.expansion LEVELS image.now.arch }
+    requires serves { Serves E.kind_of E.DIRECTORY_HEIGHT E.expansion LEVELS image.now }
     requires within { index < image.now.windows.kernspan / page_span image.now.arch }
     ensures { OnOk result (out.new.items ≡ out.old.items ++ directory_page_of image.now index) }
 {
@@ -122,7 +122,7 @@ pub(crate) fn put_directory<E: Entry, const LEVELS: usize>(
     out: &mut Vec<u8>,
     image: &Image,
 ) -> Result<(), AllocError>
-    requires { Serves E.kind_of E.DIRECTORY_HEIGHT E.expansion LEVELS image.now.arch }
+    requires { Serves E.kind_of E.DIRECTORY_HEIGHT E.expansion LEVELS image.now }
     ensures { OnOk result (out.new.items ≡ out.old.items ++ directory_of image.now) }
 {
     let span = image.windows().kernspan;

@@ -16,8 +16,8 @@ use Rattle.fd_site.specs.Contents.{whole_part}
 use Rattle.fd_site.specs.Journal.{Entry, Sync, part_step, part_after, file_step, file_after}
 use Rattle.fd_site.proofs.Written.{part_after-append, part_after-whole_part}
 use Rattle.fd_site.proofs.Told.{file_after-append}
-use Rattle.fd_fake.specs.Disk.{Files, IsCurrent, content, listed}
-use Rattle.fd_fake.specs.Memory.{file_in}
+use Rattle.fd_fake.specs.Directory.{Files, content, file_in, listed}
+use Rattle.fd_fake.specs.Disk.{IsCurrent}
 
 -- a list of files is read as the map is
 pub file_in-listed : (files : Files) (q : List ℕ) → file_in (listed files) q ≡ content files q

@@ -1,4 +1,10 @@
+pub mod Calls
+pub mod Directory
 pub mod Disk
 pub mod Entries
-pub mod Memory
-pub mod Stop
+pub mod MemLink
+pub mod MemPorts
+pub mod MemSink
+pub mod MemSite
+pub mod Played
+pub mod StopSite

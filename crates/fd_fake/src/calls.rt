@@ -1,6 +1,8 @@
+//! The calls of an object in memory that can fail.
+
 ghost use Rattle.std.specs.Prelude.{◌≡◌, ◌≤◌, IsTrue, ◌↔◌, true};
 ghost use Rattle.std.specs.Bool.{OnTrue, OnFalse};
-ghost use Rattle.fd_fake.specs.Memory.{IsDue, after_call, after_fault, no_calls, risen};
+ghost use Rattle.fd_fake.specs.Calls.{IsDue, after_call, after_fault, no_calls, risen};
 
 use std::marker::Model;
 
@@ -15,7 +17,7 @@ pub struct Calls {
 }
 
 impl Model for Calls {
-    ghost use Rattle.fd_fake.specs.Memory.{CallCount};
+    ghost use Rattle.fd_fake.specs.Calls.{CallCount};
 
     ghost Value = { CallCount };
 
@@ -74,6 +76,14 @@ impl Calls {
         self.starved = risen_count(self.starved);
     }
 
+    /// How many calls were made.
+    pub fn made(&self) -> u64
+        ensures { result ≡ self.now.made }
+    {
+        self.made
+    }
+
+    /// How many calls have failed for want of memory.
     pub fn starved(&self) -> u64
         ensures { result ≡ self.now.starved }
     {

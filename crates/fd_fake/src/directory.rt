@@ -5,7 +5,7 @@ ghost use Rattle.std.specs.Option.{option_map};
 ghost use Rattle.std.specs.Str.{bytes_eq};
 ghost use Rattle.std.specs.String.{string_bytes};
 ghost use Rattle.fd_site.specs.Journal.{file_written};
-ghost use Rattle.fd_fake.specs.Disk.{content};
+ghost use Rattle.fd_fake.specs.Directory.{content};
 
 use crate::bytes::write_at;
 use std::alloc::AllocError;

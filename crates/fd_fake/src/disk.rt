@@ -1,9 +1,12 @@
+//! A disk in memory: a partition and a directory of files, and what was asked of them.
+
 ghost use Rattle.std.specs.Prelude.{◌≡◌, ◌+◌, ◌≤◌, ◌%◌, ◌++◌, [], ◌∷◌, ℕ, List, length, take, drop, replicate, Some, IfOk, IfSome, IsSomeAnd, OnOk, OnErr, slice_range, if◌then◌else◌};
 ghost use Rattle.std.specs.Option.{option_map};
 ghost use Rattle.std.specs.Str.{bytes_eq};
 ghost use Rattle.fd_site.specs.Contents.{whole_part};
 ghost use Rattle.fd_site.specs.Journal.{Create, Sync, Write};
-ghost use Rattle.fd_fake.specs.Memory.{file_in, file_now, part_now, with_entry};
+ghost use Rattle.fd_fake.specs.Directory.{file_in};
+ghost use Rattle.fd_fake.specs.Disk.{file_now, part_now, with_entry};
 
 use crate::bytes::overwrite;
 use crate::directory::{Files, len_in, put_file, read_in, remove_file, write_in};
@@ -25,11 +28,12 @@ pub struct Disk {
 }
 
 impl Model for Disk {
-    ghost use Rattle.fd_fake.specs.Memory.{DiskInMemory};
+    ghost use Rattle.fd_fake.specs.Disk.{DiskInMemory};
 
     ghost Value = { DiskInMemory };
 
-    ghost use Rattle.fd_fake.specs.Disk.{IsCurrent, listed};
+    ghost use Rattle.fd_fake.specs.Directory.{listed};
+    ghost use Rattle.fd_fake.specs.Disk.{IsCurrent};
     ghost use Rattle.fd_fake.specs.Entries.{entries};
 
     ghost view = { λ d. record { base_part = d.base_part.items; base_files = listed d.base_files; journal = entries d.journal.items } };

@@ -1,3 +1,5 @@
+//! One entry of a journal.
+
 /// One entry of a journal. A write to the partition kept every sector.
 #[derive(Drop)]
 pub enum Entry {

@@ -21,7 +21,7 @@ pub record KeepsRules (m : MachineImage) : Type 0 where
   pub wanted_in_order : bad_wanted_page m.wanted ≡ None
   pub root_aligned : bad_root m.root ≡ None
   pub kernel_window : unless (is_kernel_window m.arch m.windows) ≡ None
-  pub kernel_space : unless (is_in_kernel_space m.arch m.windows) ≡ None
+  pub kernel_space : unless (is_in_kernel_space m) ≡ None
   pub direct_map : unless (is_direct_map m.arch m.windows) ≡ None
   pub windows_apart : unless (are_apart m.windows) ≡ None
 

@@ -2,16 +2,23 @@
 use Rattle.std.specs.Prelude.{ℕ, suc, ◌+◌, ◌-◌, ◌%◌, ◌^◌, ◌<◌, ◌≡◌, min, max, Bool, not, ◌&&◌, ◌||◌, ◌==◌, nat_lt, nat_le, if◌then◌else◌, List, [], ◌∷◌, length, map, position, zip, sum_by, All, Option, Some, None}
 use Rattle.std.specs.List.{list_any}
 use Rattle.fd_bytes.specs.declared.arch.Arch.{Arch}
+use Rattle.fd_bytes.specs.Profile.{profile_of}
 use Rattle.fd_image.specs.declared.rules.BadImage.{BadImage}
 use Rattle.fd_image.specs.declared.parts.Parts.{Parts}
 use Rattle.fd_image.specs.declared.parts.Seg.{Seg}
 use Rattle.fd_image.specs.declared.parts.Texts.{Texts}
 use Rattle.fd_image.specs.declared.parts.Windows.{Windows}
-use Rattle.fd_image.specs.Space.{space_of}
 
 -- a machine image, valid or not
 abbrev pub MachineImage : Type 0
 MachineImage = Parts
+
+-- the levels of the image's page tables, and the least address of its kernel window
+abbrev pub levels_of : MachineImage → ℕ
+levels_of m = (profile_of m.arch).levels
+
+abbrev pub kernel_start_of : MachineImage → ℕ
+kernel_start_of m = (profile_of m.arch).kernel_start
 
 -- the first address past a segment, and past the kernel window
 abbrev pub end_of : Seg → ℕ
@@ -67,7 +74,7 @@ segment_out_of_order segs = first_failing begins_at_or_after (beside_the_one_bef
 
 -- 4: each segment ends at or below the end of physical addresses
 abbrev pub segment_past_end : Arch → List Seg → Option ℕ
-segment_past_end arch segs = first_failing (λ seg. nat_le (end_of seg) (space_of arch).physical_end) segs
+segment_past_end arch segs = first_failing (λ seg. nat_le (end_of seg) (profile_of arch).physical_end) segs
 
 -- 5: the lengths of the segments add up to at most 2^30, and the counts and the lengths of the texts are within limits
 abbrev pub has_texts_within_limits : Texts → Bool
@@ -120,17 +127,17 @@ bad_root root = unless (is_page_aligned root)
 -- within its limit; the window ends at 2^64 or below
 abbrev pub is_kernel_window : Arch → Windows → Bool
 is_kernel_window arch w =
-    is_multiple (space_of arch).window_unit w.kernbase && is_multiple (space_of arch).window_unit w.kernspan && not (w.kernspan == 0) && nat_le w.kernspan (space_of arch).window_limit && nat_le (kernel_end w) (2 ^ 64)
+    is_multiple (profile_of arch).window_unit w.kernbase && is_multiple (profile_of arch).window_unit w.kernspan && not (w.kernspan == 0) && nat_le w.kernspan (profile_of arch).window_limit && nat_le (kernel_end w) (2 ^ 64)
 
 -- 12: the kernel window begins at or after the first kernel address
-abbrev pub is_in_kernel_space : Arch → Windows → Bool
-is_in_kernel_space arch w = nat_le (space_of arch).kernel_start w.kernbase
+abbrev pub is_in_kernel_space : MachineImage → Bool
+is_in_kernel_space m = nat_le (kernel_start_of m) m.windows.kernbase
 
 -- 13: the direct map has multiples of 4096, doesn't end before it begins, begins at physical address 0 where the
 -- architecture says so, and reaches no physical address past their end
 abbrev pub is_direct_map : Arch → Windows → Bool
 is_direct_map arch w =
-    is_page_aligned w.dmapbase && is_page_aligned w.dmapend && is_page_aligned w.dmapphys && nat_le w.dmapbase w.dmapend && ((space_of arch).shifts_direct_map || (w.dmapphys == 0)) && nat_le (direct_map_end w) (space_of arch).physical_end
+    is_page_aligned w.dmapbase && is_page_aligned w.dmapend && is_page_aligned w.dmapphys && nat_le w.dmapbase w.dmapend && ((profile_of arch).shifts_direct_map || (w.dmapphys == 0)) && nat_le (direct_map_end w) (profile_of arch).physical_end
 
 -- 14: the kernel window and the direct map have no address in common: the later start isn't below the earlier end
 abbrev pub are_apart : Windows → Bool
@@ -139,7 +146,7 @@ are_apart w = nat_le (min (kernel_end w) w.dmapend) (max w.kernbase w.dmapbase)
 -- the least place that breaks each rule, in the order of the rules
 unfoldable pub breaches : MachineImage → List (Option ℕ)
 breaches m =
-    missing_segment m.segs ∷ ragged_segment m.segs ∷ segment_out_of_order m.segs ∷ segment_past_end m.arch m.segs ∷ unless (is_within_limits m) ∷ ragged_pair m.avail ∷ pair_out_of_order m.avail ∷ pair_outside m.segs m.avail ∷ bad_wanted_page m.wanted ∷ bad_root m.root ∷ unless (is_kernel_window m.arch m.windows) ∷ unless (is_in_kernel_space m.arch m.windows) ∷ unless (is_direct_map m.arch m.windows) ∷ unless (are_apart m.windows) ∷ []
+    missing_segment m.segs ∷ ragged_segment m.segs ∷ segment_out_of_order m.segs ∷ segment_past_end m.arch m.segs ∷ unless (is_within_limits m) ∷ ragged_pair m.avail ∷ pair_out_of_order m.avail ∷ pair_outside m.segs m.avail ∷ bad_wanted_page m.wanted ∷ bad_root m.root ∷ unless (is_kernel_window m.arch m.windows) ∷ unless (is_in_kernel_space m) ∷ unless (is_direct_map m.arch m.windows) ∷ unless (are_apart m.windows) ∷ []
 
 -- the first rule with a place, where the rules are numbered from this number on
 abbrev pub first_breach : ℕ → List (Option ℕ) → Option BadImage

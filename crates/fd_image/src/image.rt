@@ -1,6 +1,6 @@
 //! The valid image, with its words and pages.
-ghost use Rattle.std.specs.Prelude.{◌≡◌, ◌%◌, Some, None, IsTrue, IfSome, IfOk, IfErr, find, option_copied};
-ghost use Rattle.fd_image.specs.Image.{broken_rule, is_whole_pages, IsValid};
+ghost use Rattle.std.specs.Prelude.{◌≡◌, ◌⊎◌, ◌%◌, Some, None, IsTrue, IfSome, IfOk, IfErr, find, option_copied};
+ghost use Rattle.fd_image.specs.Image.{broken_rule, levels_of, segment_out_of_order, is_whole_pages, IsTyped, IsValid};
 ghost use Rattle.fd_image.specs.Physical.{has_address, page_in, page_of, segment_of, word_in};
 
 use crate::memory::Memory;
@@ -32,13 +32,12 @@ impl Image {
         ensures valid { IfOk result (λ image. image ≡ parts) }
         ensures kept { IfOk result (λ _. broken_rule parts ≡ None) }
         ensures broken { IfErr result (λ bad. broken_rule parts ≡ Some bad) }
+        ensures typed { IsTyped parts }
     {
+        is_typed(&parts);
         match broken_rule(&parts) {
             Some(bad) => Err(bad),
-            None => {
-                is_typed(&parts);
-                Ok(Image { parts })
-            }
+            None => Ok(Image { parts }),
         }
     }
 
@@ -48,6 +47,15 @@ impl Image {
         ensures valid { IsValid self.now }
     {
         self.parts.arch
+    }
+
+    /// How many levels the page tables have.
+    pub fn levels(&self) -> u32
+        ensures value { result ≡ levels_of self.now }
+        ensures few { (result ≡ 3) ⊎ (result ≡ 4) }
+        ensures valid { IsValid self.now }
+    {
+        self.parts.arch.profile().levels
     }
 
     /// The segments of physical memory, in the order of their addresses.
@@ -135,10 +143,21 @@ impl Memory for Image {
     }
 }
 
+// The segment in which an address lies, by binary search.
 fn find_segment(segs: &[Seg], pa: u64) -> Option<&Seg>
+    requires { segment_out_of_order segs.now ≡ None }
     ensures { option_copied result ≡ find (has_address pa) segs.now }
 {
-    segs.iter().find(|seg| has_address(seg, pa))
+    let count = segs.partition_point(|seg| seg.start <= pa);
+    if count == 0 {
+        return None;
+    }
+    let seg = &segs[count - 1];
+    if has_address(seg, pa) {
+        Some(seg)
+    } else {
+        None
+    }
 }
 
 // Whether the segment has a byte at this address.

@@ -8,7 +8,6 @@ mod memory;
 mod parts;
 mod rules;
 mod sequence;
-mod space;
 #[cfg(test)]
 mod tests;
 mod typed;

@@ -1,9 +1,8 @@
 //! The rules of a valid image: each function answers the least place that breaks its rule.
 ghost use Rattle.std.specs.Prelude.{◌≡◌, nat_le, length, sum_by};
-ghost use Rattle.fd_image.specs.Image.{first_failing, end_of, kernel_end, direct_map_end, unless, missing_segment, is_whole_pages, ragged_segment, segment_out_of_order, segment_past_end, has_texts_within_limits, is_within_limits, is_range_of_pages, ragged_pair, pair_out_of_order, lies_in_segment, pair_outside, bad_wanted_page, bad_root, is_kernel_window, is_in_kernel_space, is_direct_map, are_apart, first_breach, broken_rule};
+ghost use Rattle.fd_image.specs.Image.{first_failing, end_of, kernel_end, kernel_start_of, direct_map_end, unless, missing_segment, is_whole_pages, ragged_segment, segment_out_of_order, segment_past_end, has_texts_within_limits, is_within_limits, is_range_of_pages, ragged_pair, pair_out_of_order, lies_in_segment, pair_outside, bad_wanted_page, bad_root, is_kernel_window, is_in_kernel_space, is_direct_map, are_apart, first_breach, broken_rule};
 
 use crate::parts::{Parts, Seg, Texts, Windows};
-use crate::space::space_of;
 use fd_bytes::Arch;
 
 const PAGE: u64 = 4096;
@@ -36,7 +35,7 @@ pub(crate) fn broken_rule(parts: &Parts) -> Option<BadImage>
         bad_wanted_page(parts.wanted.as_slice()),
         unless(parts.root % PAGE == 0),
         unless(is_kernel_window(arch, windows)),
-        unless(is_in_kernel_space(arch, windows)),
+        unless(is_in_kernel_space(parts)),
         unless(is_direct_map(arch, windows)),
         unless(are_apart(windows)),
     ];
@@ -107,7 +106,7 @@ fn segment_out_of_order(segs: &[Seg]) -> Option<usize>
 fn segment_past_end(arch: Arch, segs: &[Seg]) -> Option<usize>
     ensures { result ≡ segment_past_end arch segs.now }
 {
-    let end = u128::from(space_of(arch).physical_end);
+    let end = u128::from(arch.profile().physical_end);
     segs.iter().position(|seg| end_of(seg) > end)
 }
 
@@ -214,30 +213,37 @@ fn kernel_end(windows: &Windows) -> u128
 fn is_kernel_window(arch: Arch, windows: &Windows) -> bool
     ensures { result ≡ is_kernel_window arch windows.now }
 {
-    let space = space_of(arch);
-    windows.kernbase % space.window_unit == 0
-        && windows.kernspan % space.window_unit == 0
+    let profile = arch.profile();
+    windows.kernbase % profile.window_unit == 0
+        && windows.kernspan % profile.window_unit == 0
         && windows.kernspan != 0
-        && windows.kernspan <= space.window_limit
+        && windows.kernspan <= profile.window_limit
         && kernel_end(windows) <= 1 << 64
 }
 
-fn is_in_kernel_space(arch: Arch, windows: &Windows) -> bool
-    ensures { result ≡ is_in_kernel_space arch windows.now }
+fn is_in_kernel_space(parts: &Parts) -> bool
+    ensures { result ≡ is_in_kernel_space parts.now }
 {
-    space_of(arch).kernel_start <= windows.kernbase
+    kernel_start(parts) <= parts.windows.kernbase
+}
+
+// The least address of a kernel window.
+fn kernel_start(parts: &Parts) -> u64
+    ensures { result ≡ kernel_start_of parts.now }
+{
+    parts.arch.profile().kernel_start
 }
 
 fn is_direct_map(arch: Arch, windows: &Windows) -> bool
     ensures { result ≡ is_direct_map arch windows.now }
 {
-    let space = space_of(arch);
+    let profile = arch.profile();
     windows.dmapbase % PAGE == 0
         && windows.dmapend % PAGE == 0
         && windows.dmapphys % PAGE == 0
         && windows.dmapbase <= windows.dmapend
-        && (space.shifts_direct_map || windows.dmapphys == 0)
-        && direct_map_end(windows) <= u128::from(space.physical_end)
+        && (profile.shifts_direct_map || windows.dmapphys == 0)
+        && direct_map_end(windows) <= u128::from(profile.physical_end)
 }
 
 fn direct_map_end(windows: &Windows) -> u128

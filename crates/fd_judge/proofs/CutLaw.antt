@@ -9,13 +9,14 @@
 -- is the header, both headers stand, no reason stands against them, and the bytes between them are the pieces joined,
 -- which is the body (`found`).
 --
--- `Starts` tells the two kinds apart, `Torn` says what a write leaves of which some sectors are new, `Places` what
--- stands where after whole writes, and `Verdicts` what a judge answers. `Calls` takes the law to the cuts of a call.
+-- `CutWrites` tells the two kinds apart, `Torn` says what a write leaves of which some sectors are new, fd_part's `Places`
+-- what stands where after whole writes, and `Verdicts` what a judge answers. `Calls` takes the law to the cuts of a call.
 use Rattle.std.proofs.Common.{◌≡◌, inl, inr, ℕ, ◌+◌, ◌-◌, ◌%◌, ◌≤◌, Bool, IsTrue, List, [], ◌∷◌, ◌++◌, length, take, drop, replicate, slice_range, refl, sym, ◌∙◌, ap, subst, arith, length-append, append_assoc}
-use Rattle.std.proofs.lemmas.List.{take_all, take_at, length-replicate}
+use Rattle.std.proofs.lemmas.List.{take_all, take_at}
 use Rattle.std.proofs.lemmas.Slice.{take-put_mid_below, drop-put_mid}
 use Rattle.std.specs.List.{concat}
 use borrow.Rule.Slice.PartMut.{put_mid}
+use Rattle.fd_site.specs.Begun.{IsBegun}
 use Rattle.fd_site.specs.Journal.{Entry, all_kept, part_step, part_after}
 use Rattle.fd_site.specs.Contents.{whole_part}
 use Rattle.fd_site.specs.Cut.{part_cut}
@@ -24,14 +25,16 @@ use Rattle.fd_kdh.specs.Header.{dump_header}
 use Rattle.fd_kdh.specs.declared.header.Header.{Header}
 use Rattle.fd_kdh.proofs.Headers.{length-dump_header}
 use Rattle.fd_part.specs.Partition.{is_good, need_of, leading_place, dump_place, trailing_place, sector_at, trailing_sector, IsClear}
-use Rattle.fd_part.specs.Dump.{AllSectors, IsDumpJournal, IsStartOf, IsStartedDump, header_block, writes_from}
+use Rattle.fd_part.specs.Dump.{AllSectors, IsBegunDump, IsDumpJournal, header_block, writes_from}
 use Rattle.fd_judge.specs.Crash.{IsHeaderFor, IsRefused, IsThisDump, IsRefusedOrThis}
-use Rattle.fd_judge.proofs.Places.{range_is, same_before, length-put, at_put, part_after-writes_from, AllBelow-writes_from}
-use Rattle.fd_judge.proofs.Starts.{AllBelow, AllBelow-append, IsSameFrom, after_same, cut_of_start}
+use Rattle.fd_part.proofs.Blocks.{IsBlock, IsBlock-good, length-header_block}
+use Rattle.fd_part.proofs.Places.{range_is, same_before, length-put, at_put, part_after-writes_from}
+use Rattle.fd_judge.proofs.CutWrites.{AllBelow, AllBelow-append, AllBelow-writes_from, IsSameFrom, after_same, cut_of_begun}
 use Rattle.fd_judge.proofs.Torn.{IsTorn, length-torn, take-torn, sector-torn}
-use Rattle.fd_judge.proofs.Verdicts.{IsBlock, IsBlock-good, refused, accepted}
+use Rattle.fd_judge.proofs.Verdicts.{refused, accepted}
 
-module _ (part body : List ℕ) (h : Header) (block : ℕ) (good : IsTrue (is_good (length part) block)) (room : need_of block (length body) ≤ length part) (header : IsHeaderFor body block h) (pieces : List (List ℕ)) (sectors : AllSectors pieces) (joined : concat pieces ≡ body) where
+module _ (part body : List ℕ) (h : Header) (block : ℕ) (good : IsTrue (is_good (length part) block)) (room : need_of block (length body) ≤ length part)
+    (header : IsHeaderFor body block h) (pieces : List (List ℕ)) (sectors : AllSectors pieces) (joined : concat pieces ≡ body) where
   -- where the trailing block, the dump and the leading block begin
   abbrev end : ℕ
   end = trailing_place (length part) block
@@ -53,7 +56,7 @@ module _ (part body : List ℕ) (h : Header) (block : ℕ) (good : IsTrue (is_go
   size = ap length joined
 
   length-header_bytes : length header_bytes ≡ block
-  length-header_bytes = omega (arith, length-dump_header h header.within.fits, length-append (dump_header h) (replicate (block - 512) 0), length-replicate {A = ℕ} (block - 512) 0, is_block.some)
+  length-header_bytes = length-header_block h block header.within.fits is_block.low
 
   whole : length header_bytes % 512 ≡ 0
   whole = omega (arith, length-header_bytes, is_block.sectors)
@@ -87,20 +90,22 @@ module _ (part body : List ℕ) (h : Header) (block : ℕ) (good : IsTrue (is_go
   before_is : before ≡ put_mid lead (length header_bytes) with_body header_bytes
   before_is =
       part_after-append part (writes_from place pieces) (whole_part lead header_bytes ∷ [])
-      ∙ ap (λ (l : List ℕ). part_step l (whole_part lead header_bytes)) (part_after-writes_from place part pieces sectors (omega (arith, size, room)) ∙ ap (λ (l : List ℕ). put_mid place (length l) part l) joined)
+      ∙ ap (λ (l : List ℕ). part_step l (whole_part lead header_bytes)) (part_after-writes_from place part pieces sectors (omega (arith, size, room))
+      ∙ ap (λ (l : List ℕ). put_mid place (length l) part l) joined)
       ∙ written-all_kept with_body lead header_bytes whole
 
   -- there the leading header and the body stand
   lead_before : take 512 (drop lead before) ≡ dump_header h
   lead_before =
       ap (λ (l : List ℕ). take 512 (drop lead l)) before_is
-      ∙ at_put lead with_body header_bytes 512 (omega (arith, length-with_body)) (omega (arith, length-header_bytes, is_block.some))
+      ∙ at_put lead with_body header_bytes 512 (omega (arith, length-with_body)) (omega (arith, length-header_bytes, is_block.low))
       ∙ first
 
   body_before : take (length body) (drop place before) ≡ body
   body_before =
       ap (λ (l : List ℕ). take (length body) (drop place l)) before_is
-      ∙ ap (λ (l : List ℕ). take (length body) l) (drop-put_mid lead (length header_bytes) with_body header_bytes place (omega (arith, length-header_bytes, room)) (omega (arith, length-with_body)) refl)
+      ∙ ap (λ (l : List ℕ). take (length body) l)
+      (drop-put_mid lead (length header_bytes) with_body header_bytes place (omega (arith, length-header_bytes, room)) (omega (arith, length-with_body)) refl)
       ∙ at_put place part body (length body) (omega arith) (omega arith)
       ∙ take_all (length body) body (omega arith)
 
@@ -116,7 +121,7 @@ module _ (part body : List ℕ) (h : Header) (block : ℕ) (good : IsTrue (is_go
   lead_there q same front =
       range_is q (leading_place (length q) block (length body)) 512
       ∙ ap (λ n. take 512 (drop (leading_place n block (length body)) q)) same
-      ∙ same_before lead 512 end before q (omega (arith, is_block.some, room)) front
+      ∙ same_before lead 512 end before q (omega (arith, is_block.low, room)) front
       ∙ lead_before
 
   body_there : (q : List ℕ) → length q ≡ length part → take end q ≡ take end before
@@ -152,9 +157,11 @@ module _ (part body : List ℕ) (h : Header) (block : ℕ) (good : IsTrue (is_go
   last_apart = sym (append_assoc (writes_from place pieces) (whole_part lead header_bytes ∷ []) (whole_part end header_bytes ∷ []))
 
   each_cut : IsClear part block → (journal : List Entry) (k : ℕ) (these : List Bool)
-      → IsStartOf journal (writes_from place pieces ++ whole_part lead header_bytes ∷ whole_part end header_bytes ∷ []) → IsRefusedOrThis body h block (part_cut part journal k these)
-  each_cut clear journal k these start =
-      elim (cut_of_start end part writes end header_bytes (all_kept header_bytes) journal k these below (omega arith) whole (subst (IsStartOf journal) last_apart start)) [
+      → IsBegun (writes_from place pieces ++ whole_part lead header_bytes ∷ whole_part end header_bytes ∷ []) journal
+      → IsRefusedOrThis body h block (part_cut part journal k these)
+  each_cut clear journal k these begun =
+      elim (cut_of_begun end part writes end header_bytes (all_kept header_bytes) journal k these below (omega arith) whole
+      (subst (λ (l : List Entry). IsBegun l journal) last_apart begun)) [
         | inl same ↦ inl (still_clear clear (part_cut part journal k these) same.size (ap (λ (l : List ℕ). take 512 l) same.tail))
         | inr torn ↦ torn_last clear (part_cut part journal k these) torn
       ]
@@ -171,20 +178,23 @@ module _ (part body : List ℕ) (h : Header) (block : ℕ) (good : IsTrue (is_go
 
   found_after : IsThisDump body h block after
   found_after =
-      found after (length-put end before header_bytes inside ∙ stays.size) (take-put_mid_below end (length header_bytes) before header_bytes end (omega arith) (omega (arith, inside)))
-      (at_put end before header_bytes 512 (omega (arith, inside)) (omega (arith, length-header_bytes, is_block.some)))
+      found after (length-put end before header_bytes inside ∙ stays.size)
+      (take-put_mid_below end (length header_bytes) before header_bytes end (omega arith) (omega (arith, inside)))
+      (at_put end before header_bytes 512 (omega (arith, inside)) (omega (arith, length-header_bytes, is_block.low)))
 
--- each cut of a started dump over a clear partition
+-- each cut of a dump that was begun over a clear partition
 pub refused_or_this : (part body : List ℕ) (h : Header) (block : ℕ) (journal : List Entry) (k : ℕ) (these : List Bool)
-    → IsTrue (is_good (length part) block) → need_of block (length body) ≤ length part → IsClear part block → IsHeaderFor body block h → IsStartedDump body h (length part) block journal
-    → IsRefusedOrThis body h block (part_cut part journal k these)
-refused_or_this part body h block journal k these good room clear header started =
-    let dump = started.is_dump in
-    each_cut part body h block good room header dump.pieces dump.sectors dump.joined clear journal k these (subst (IsStartOf journal) dump.is started.start)
+    → IsTrue (is_good (length part) block) → need_of block (length body) ≤ length part → IsClear part block → IsHeaderFor body block h
+    → IsBegunDump body h (length part) block journal → IsRefusedOrThis body h block (part_cut part journal k these)
+refused_or_this part body h block journal k these good room clear header begun =
+    let dump = begun.is_dump in
+    each_cut part body h block good room header dump.pieces dump.sectors dump.joined clear journal k these
+    (subst (λ (l : List Entry). IsBegun l journal) dump.is begun.begun)
 
 -- a whole dump over any partition
 pub this_after : (part body : List ℕ) (h : Header) (block : ℕ) (journal : List Entry)
-    → IsTrue (is_good (length part) block) → need_of block (length body) ≤ length part → IsHeaderFor body block h → IsDumpJournal body h (length part) block journal
+    → IsTrue (is_good (length part) block) → need_of block (length body) ≤ length part → IsHeaderFor body block h
+    → IsDumpJournal body h (length part) block journal
     → IsThisDump body h block (part_after part journal)
 this_after part body h block journal good room header dump =
     subst (IsThisDump body h block) (sym (ap (part_after part) dump.is ∙ after_is part body h block good room header dump.pieces dump.sectors dump.joined))

@@ -6,7 +6,7 @@ use Rattle.fd_kdh.specs.declared.header.HeaderFault.{HeaderFault}
 use Rattle.fd_part.specs.Partition.{sector_at, leading_place, dump_place}
 use Rattle.fd_judge.specs.Verdict.{judged, taken, reasons, first_of, first_difference, reason_of, by_leading, by_fields, by_header, by_sectors}
 use Rattle.fd_judge.specs.declared.verdict.Verdict.TheVariants.{Refused}
-use Rattle.fd_judge.specs.declared.verdict.Why.{Why}
+use Rattle.fd_judge.specs.declared.why.Why.{Why}
 
 -- the trailing sector was read, and is taken as `seen`
 pub record ReadsTrailing (part : List ℕ) (size block : ℕ) (force : Bool) (sector seen : List ℕ) : Type 0 where

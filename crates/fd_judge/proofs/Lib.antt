@@ -1,7 +1,6 @@
 pub mod Calls
 pub mod CutLaw
-pub mod Judged
-mod Places
-mod Starts
+mod CutWrites
+mod Judged
 mod Torn
 mod Verdicts

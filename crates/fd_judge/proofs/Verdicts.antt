@@ -7,6 +7,7 @@ use Rattle.fd_kdh.specs.Header.{decoded, dump_header, live_magic}
 use Rattle.fd_kdh.specs.declared.header.Header.{Header}
 use Rattle.fd_kdh.specs.declared.header.HeaderFault.{HeaderFault}
 use Rattle.fd_kdh.proofs.Headers.{decoded-dump_header, take-decoded}
+use Rattle.fd_part.proofs.Blocks.{IsBlock-good}
 use Rattle.fd_part.specs.Partition.{is_good, need_of, sector_at, trailing_sector, leading_place, dump_place, IsClear}
 use Rattle.fd_judge.specs.Crash.{IsHeaderFor, IsRefused}
 use Rattle.fd_judge.specs.Verdict.{judged, reasons, first_of, first_difference, reason_of, by_leading, by_fields, by_header}
@@ -21,24 +22,6 @@ by_decoded q block (Ok h) is other = absurd (other (take-decoded (trailing_secto
 pub refused : (part q : List ℕ) (block : ℕ) → IsClear part block → trailing_sector q block ≡ trailing_sector part block → IsRefused block q
 refused part q block clear same =
     by_decoded q block (decoded (trailing_sector q block)) refl (λ live. clear (ap (λ (l : List ℕ). take 20 l) (sym same) ∙ live))
-
--- what each size of a block has
-pub record IsBlock (block : ℕ) : Type 0 where
-  pub some : 512 ≤ block
-  pub sectors : block % 512 ≡ 0
-  pub pages : (n : ℕ) → n % 4096 ≡ 0 → n % block ≡ 0
-
-block_sizes : (size block : ℕ) → IsTrue (is_good size block) → (block ≡ 512) ⊎ ((block ≡ 1024) ⊎ ((block ≡ 2048) ⊎ (block ≡ 4096)))
-block_sizes size block good = grind (arith, nat_tests)
-
-by_size : (block : ℕ) → (block ≡ 512) ⊎ ((block ≡ 1024) ⊎ ((block ≡ 2048) ⊎ (block ≡ 4096))) → IsBlock block
-by_size block (inl is) = subst IsBlock (sym is) (record { some = omega arith; sectors = omega arith; pages = λ n pages. omega arith })
-by_size block (inr (inl is)) = subst IsBlock (sym is) (record { some = omega arith; sectors = omega arith; pages = λ n pages. omega arith })
-by_size block (inr (inr (inl is))) = subst IsBlock (sym is) (record { some = omega arith; sectors = omega arith; pages = λ n pages. omega arith })
-by_size block (inr (inr (inr is))) = subst IsBlock (sym is) (record { some = omega arith; sectors = omega arith; pages = λ n pages. omega arith })
-
-pub IsBlock-good : (size block : ℕ) → IsTrue (is_good size block) → IsBlock block
-IsBlock-good size block good = by_size block (block_sizes size block good)
 
 -- no reason stands against the header of a dump that has room
 no_reason : (body : List ℕ) (h : Header) (size block : ℕ) → IsTrue (is_good size block) → need_of block (length body) ≤ size → IsHeaderFor body block h

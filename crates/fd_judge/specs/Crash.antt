@@ -6,7 +6,7 @@ use Rattle.fd_kdh.specs.Header.{IsWithinFields, dump_header}
 use Rattle.fd_kdh.specs.declared.header.Header.{Header}
 use Rattle.fd_part.specs.Partition.{dump_place}
 use Rattle.fd_judge.specs.Verdict.{judged}
-use Rattle.fd_judge.specs.declared.verdict.Why.{Why}
+use Rattle.fd_judge.specs.declared.why.Why.{Why}
 use Rattle.fd_judge.specs.declared.verdict.Verdict.TheVariants.{Dump, Refused}
 
 -- the header of a plain dump of this body, of whole pages and not empty, for a partition with such blocks

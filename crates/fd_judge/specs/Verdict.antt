@@ -1,15 +1,17 @@
 -- What judging a partition answers.
-use Rattle.std.specs.Prelude.{ℕ, ◌%◌, Bool, ◌&&◌, ◌||◌, not, ◌==◌, nat_lt, List, [], ◌∷◌, ◌++◌, length, take, drop, if◌then◌else◌, Option, Some, None, is_none, position, Result, Ok, Err}
+use Rattle.std.specs.Prelude.{ℕ, ◌%◌, Bool, ◌&&◌, ◌||◌, not, ◌==◌, nat_lt, List, [], ◌∷◌, ◌++◌, length, take, drop, if◌then◌else◌, Option, Some, None}
+use Rattle.std.specs.Prelude.{is_none, position, Result, Ok, Err}
 use Rattle.std.specs.List.{zip}
 use Rattle.std.specs.Str.{bytes_eq}
 use Rattle.fd_bytes.specs.Arch.{arch_of_header}
 use Rattle.fd_kdh.specs.Header.{decoded, live_magic, cleared_magic}
-use Rattle.fd_part.specs.Partition.{need_of, sector_at, trailing_sector, leading_place, dump_place}
+use Rattle.fd_part.specs.Partition.{has_room, sector_at, trailing_sector, leading_place, dump_place}
 use Rattle.fd_kdh.specs.declared.header.Header.{Header}
 use Rattle.fd_kdh.specs.declared.header.HeaderFault.{HeaderFault}
 use Rattle.fd_kdh.specs.declared.header.HeaderFault.TheVariants as fault
-use Rattle.fd_judge.specs.declared.verdict.Why.{Why}
-use Rattle.fd_judge.specs.declared.verdict.Why.TheVariants.{NoMagic, TextDump, Cleared, UnknownVersion, BadParity, Compressed, Encrypted, UnknownArch, BadBlock, LengthDiffers, BadExtent, Disagree}
+use Rattle.fd_judge.specs.declared.why.Why.{Why}
+use Rattle.fd_judge.specs.declared.why.Why.TheVariants.{NoMagic, TextDump, Cleared, UnknownVersion, BadParity, Compressed, Encrypted, UnknownArch}
+use Rattle.fd_judge.specs.declared.why.Why.TheVariants.{BadBlock, LengthDiffers, BadExtent, Disagree}
 use Rattle.fd_judge.specs.declared.verdict.Verdict.{Verdict}
 use Rattle.fd_judge.specs.declared.verdict.Verdict.TheVariants.{Dump, Refused}
 
@@ -17,10 +19,6 @@ use Rattle.fd_judge.specs.declared.verdict.Verdict.TheVariants.{Dump, Refused}
 abbrev pub taken : Bool → List ℕ → List ℕ
 taken force sector =
     if force && bytes_eq (take 20 sector) cleared_magic then live_magic ++ drop 20 sector else sector
-
--- whether a partition has room for a dump of this extent
-abbrev pub has_room : ℕ → ℕ → ℕ → Bool
-has_room size block extent = not (nat_lt size (need_of block extent))
 
 -- what a header can be refused for, in order, each with its test
 abbrev pub reasons : Header → ℕ → ℕ → List (Bool × Why)

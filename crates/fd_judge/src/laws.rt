@@ -5,16 +5,16 @@ ghost use Rattle.fd_site.specs.Journal.{Entry, part_after};
 ghost use Rattle.fd_site.specs.Cut.{part_cut};
 ghost use Rattle.fd_kdh.specs.declared.header.Header.{Header};
 ghost use Rattle.fd_part.specs.Partition.{is_good, need_of, IsClear};
-ghost use Rattle.fd_part.specs.Dump.{IsDumpJournal, IsStartedDump};
+ghost use Rattle.fd_part.specs.Dump.{IsBegunDump, IsDumpJournal};
 ghost use Rattle.fd_judge.specs.Crash.{IsHeaderFor, IsRefusedOrThis, IsThisDump};
 
-/// Over a clear partition with room, a dump was started, and the machine stopped after `k` of its entries and any
+/// Over a clear partition with room, a dump was begun, and the machine stopped after `k` of its entries and any
 /// sectors of the next one. Then judging without force refuses the partition, or finds exactly that dump: its header,
 /// its place and its bytes.
 pub fn each_cut_is_refused_or_whole()
     ensures { (part body : List ℕ) (h : Header) (block : ℕ) (journal : List Entry) (k : ℕ) (these : List Bool)
         → IsTrue (is_good (length part) block) → need_of block (length body) ≤ length part → IsClear part block
-        → IsHeaderFor body block h → IsStartedDump body h (length part) block journal
+        → IsHeaderFor body block h → IsBegunDump body h (length part) block journal
         → IsRefusedOrThis body h block (part_cut part journal k these) }
 {}
 

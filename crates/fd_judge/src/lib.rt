@@ -7,5 +7,7 @@ pub mod laws;
 #[cfg(test)]
 mod tests;
 mod verdict;
+mod why;
 
-pub use verdict::{Verdict, Why, judge};
+pub use verdict::{Verdict, judge};
+pub use why::Why;

@@ -1,55 +1,17 @@
+//! What a partition holds, by its two headers.
+
 ghost use Rattle.std.specs.Prelude.{◌≡◌, ◌+◌, ◌-◌, ◌*◌, ◌<◌, ◌≤◌, IsTrue, IfOk, IfSome, IfNone, OnErr};
 ghost use Rattle.fd_site.specs.Contents.{Told, part_of, IsSectors};
 ghost use Rattle.fd_site.specs.Fault.{Rose};
+ghost use Rattle.fd_site.specs.Seen.{Untouched};
 ghost use Rattle.fd_part.specs.Partition.{is_good, leading_place, need_of};
-ghost use Rattle.fd_judge.specs.Verdict.{judged, taken, reasons, first_of, first_difference, reason_of};
+ghost use Rattle.fd_judge.specs.Verdict.{judged, taken, reasons, first_of, first_difference};
 
+use crate::why::Why;
 use fd_bytes::Arch;
-use fd_kdh::{CLEARED_MAGIC, Header, HeaderFault, LIVE_MAGIC, decode};
+use fd_kdh::{CLEARED_MAGIC, Header, LIVE_MAGIC, decode};
+use fd_part::need_of;
 use fd_site::{Site, SiteFault};
-
-/// Why a partition holds no dump that can be saved, in the order of the tests.
-#[derive(Clone, Copy, Debug, PartialEq, Eq)]
-pub enum Why {
-    /// The trailing sector begins with none of the three magics.
-    NoMagic,
-    /// It holds a text dump.
-    TextDump,
-    /// It holds a dump that was saved and cleared.
-    Cleared,
-    /// The header's version isn't 4.
-    UnknownVersion(u32),
-    /// The exclusive or of the header's words isn't 0 but this.
-    BadParity(u32),
-    /// The dump is compressed in this way.
-    Compressed(u8),
-    /// The dump is encrypted: its key has this size.
-    Encrypted(u32),
-    /// The architecture's name and version are none of the known pairs.
-    UnknownArch,
-    /// The header's block size isn't the partition's.
-    BadBlock(u32),
-    /// The dump's length and its extent differ.
-    LengthDiffers(u64, u64),
-    /// The extent is 0, no multiple of the block, or more than the partition has room for.
-    BadExtent(u64),
-    /// The leading header's 512 bytes differ from the trailing header's, first at this place.
-    Disagree(u16),
-}
-
-impl From<HeaderFault> for Why {
-    ghost from_gives = { λ fault why. why ≡ reason_of fault };
-
-    fn from(fault: HeaderFault) -> Why {
-        match fault {
-            HeaderFault::NoMagic => Why::NoMagic,
-            HeaderFault::TextDump => Why::TextDump,
-            HeaderFault::Cleared => Why::Cleared,
-            HeaderFault::UnknownVersion(version) => Why::UnknownVersion(version),
-            HeaderFault::BadParity(sum) => Why::BadParity(sum),
-        }
-    }
-}
 
 /// What a partition holds.
 #[derive(Drop)]
@@ -98,8 +60,7 @@ fn header_reason(header: &Header, size: u64, block: u32) -> Option<Why>
     if header.dumplength != extent {
         return Some(Why::LengthDiffers(header.dumplength, extent));
     }
-    let need = 65536 + u128::from(extent) + 2 * u128::from(block);
-    if extent == 0 || extent % u64::from(block) != 0 || need > u128::from(size) {
+    if extent == 0 || extent % u64::from(block) != 0 || need_of(block, extent) > u128::from(size) {
         return Some(Why::BadExtent(extent));
     }
     None
@@ -114,15 +75,12 @@ fn difference(a: &[u8; 512], b: &[u8; 512]) -> Option<usize>
 }
 
 /// Judges whether the partition holds a dump, as savecore(8) does, by the headers before and behind it. By `force`
-/// a cleared dump counts as a live one. It reads two sectors, writes nothing and takes no memory.
+/// a cleared dump counts as a live one.
 pub fn judge<S: Site>(site: &mut S, force: bool) -> Result<Verdict, SiteFault>
-    requires { IsTrue (is_good (S.part_size site.old) (S.block_size site.old)) }
-    ensures verdict { IfOk result (λ v. Told (S.told site.old) (λ c. v ≡ judged (part_of c) (S.block_size site.old) force)) }
-    ensures same { S.told site.new ≡ S.told site.old }
-    ensures size { S.part_size site.new ≡ S.part_size site.old }
-    ensures block { S.block_size site.new ≡ S.block_size site.old }
-    ensures count { S.faults site.old ≤ S.faults site.new }
-    ensures cause { OnErr result (Rose (S.faults site.old) (S.faults site.new)) }
+    requires { IsTrue (is_good (S.seen site.old).size (S.seen site.old).block) }
+    ensures verdict { IfOk result (λ v. Told (S.seen site.old).told (λ c. v ≡ judged (part_of c) (S.seen site.old).block force)) }
+    ensures untouched { Untouched (S.seen site.old) (S.seen site.new) }
+    ensures cause { OnErr result (Rose (S.seen site.old).faults (S.seen site.new).faults) }
 {
     let size = site.size();
     let block = site.block();

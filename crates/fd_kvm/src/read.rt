@@ -18,15 +18,12 @@ impl Kvm {
     /// the bytes before the first such address, and is unchanged from there on. After a fault of the site it has any
     /// bytes. It takes no memory.
     pub fn read<S: Site>(&self, site: &mut S, va: u64, out: &mut [u8]) -> Result<(), ReadFault>
-        requires { Told (S.told site.old) (StandsFor self.now) }
-        ensures read { Told (S.told site.old) (λ c. (f : List ℕ) → file_of c self.now.name ≡ Some f
+        requires { Told (S.seen site.old).told (StandsFor self.now) }
+        ensures read { Told (S.seen site.old).told (λ c. (f : List ℕ) → file_of c self.now.name ≡ Some f
             → IsRead (bytes_in f self.now.sections va (length out.old)) out.old out.new result) }
         ensures past_top { 2 ^ 64 < va + length out.old ↔ result ≡ Err (Address PastTop) }
-        ensures same { S.told site.new ≡ S.told site.old }
-        ensures size { S.part_size site.new ≡ S.part_size site.old }
-        ensures block { S.block_size site.new ≡ S.block_size site.old }
-        ensures count { S.faults site.old ≤ S.faults site.new }
-        ensures cause { OnSiteFault result (Rose (S.faults site.old) (S.faults site.new)) }
+        ensures untouched { Untouched (S.seen site.old) (S.seen site.new) }
+        ensures cause { IsErrOf result SiteFault → Rose (S.seen site.old).faults (S.seen site.new).faults }
     {
         if u128::from(va) + out.len() as u128 > 1 << 64 {
             return Err(ReadFault::Address(AddressFault::PastTop));

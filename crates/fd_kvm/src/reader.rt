@@ -37,14 +37,11 @@ impl Kvm {
     /// Opens the file of this name, or answers the first reason to refuse it.
     pub fn open<S: Site>(alloc: Global, site: &mut S, name: &str) -> Result<Kvm, OpenFault>
         requires { IsTrue (is_good_name name.now) }
-        ensures opening { Told (S.told site.old) (λ c. IsOpening (opened_file (file_of c name.now)) (sections_of result)) }
+        ensures opening { Told (S.seen site.old).told (λ c. IsOpening (opened_file (file_of c name.now)) (sections_of result)) }
         ensures name { IfOk result (λ kvm. kvm.name ≡ name.now) }
-        ensures stands { IfOk result (λ kvm. Told (S.told site.new) (StandsFor kvm)) }
-        ensures same { S.told site.new ≡ S.told site.old }
-        ensures size { S.part_size site.new ≡ S.part_size site.old }
-        ensures block { S.block_size site.new ≡ S.block_size site.old }
-        ensures count { S.faults site.old ≤ S.faults site.new }
-        ensures cause { OnSiteFault result (Rose (S.faults site.old) (S.faults site.new)) }
+        ensures stands { IfOk result (λ kvm. Told (S.seen site.new).told (StandsFor kvm)) }
+        ensures untouched { Untouched (S.seen site.old) (S.seen site.new) }
+        ensures cause { IsErrOf result SiteFault → Rose (S.seen site.old).faults (S.seen site.new).faults }
     {
         let core = Core::open(alloc, site, name)?;
         let name = String::from_str(alloc, name)?;

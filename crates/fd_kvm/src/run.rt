@@ -31,17 +31,14 @@ impl Kvm {
         va: u64,
         out: &mut [u8],
     ) -> Result<usize, ReadFault>
-        requires stands { Told (S.told site.old) (StandsFor self.now) }
+        requires stands { Told (S.seen site.old).told (StandsFor self.now) }
         requires some { 0 < length out.old }
-        ensures step { Told (S.told site.old) (λ c. (f : List ℕ) → file_of c self.now.name ≡ Some f → IsStep (byte_in f self.now.sections) va out.old out.new result) }
+        ensures step { Told (S.seen site.old).told (λ c. (f : List ℕ) → file_of c self.now.name ≡ Some f → IsStep (byte_in f self.now.sections) va out.old out.new result) }
         ensures some { IfOk result (λ count. 0 < count) }
         ensures inside { IfOk result (λ count. count ≤ length out.old) }
         ensures fault { IsOfAddress result }
-        ensures same { S.told site.new ≡ S.told site.old }
-        ensures size { S.part_size site.new ≡ S.part_size site.old }
-        ensures block { S.block_size site.new ≡ S.block_size site.old }
-        ensures count { S.faults site.old ≤ S.faults site.new }
-        ensures cause { OnSiteFault result (Rose (S.faults site.old) (S.faults site.new)) }
+        ensures untouched { Untouched (S.seen site.old) (S.seen site.new) }
+        ensures cause { IsErrOf result SiteFault → Rose (S.seen site.old).faults (S.seen site.new).faults }
     {
         let run = self.locate(site, va)?;
         let count = run.len.min(out.len() as u64) as usize;
@@ -51,15 +48,12 @@ impl Kvm {
 
     // Where the bytes at kernel addresses from `va` on stand in the file.
     fn locate<S: Site>(&self, site: &mut S, va: u64) -> Result<Run, ReadFault>
-        requires stands { Told (S.told site.old) (StandsFor self.now) }
-        ensures located { Told (S.told site.old) (λ c. (f : List ℕ) → file_of c self.now.name ≡ Some f → IsLocated f (byte_in f self.now.sections) va result) }
+        requires stands { Told (S.seen site.old).told (StandsFor self.now) }
+        ensures located { Told (S.seen site.old).told (λ c. (f : List ℕ) → file_of c self.now.name ≡ Some f → IsLocated f (byte_in f self.now.sections) va result) }
         ensures some { IfOk result (λ run. 0 < run.len) }
         ensures fault { IsOfAddress result }
-        ensures same { S.told site.new ≡ S.told site.old }
-        ensures size { S.part_size site.new ≡ S.part_size site.old }
-        ensures block { S.block_size site.new ≡ S.block_size site.old }
-        ensures count { S.faults site.old ≤ S.faults site.new }
-        ensures cause { OnSiteFault result (Rose (S.faults site.old) (S.faults site.new)) }
+        ensures untouched { Untouched (S.seen site.old) (S.seen site.new) }
+        ensures cause { IsErrOf result SiteFault → Rose (S.seen site.old).faults (S.seen site.new).faults }
     {
         let span = self.span_at(site, va)?;
         self.run_of(va, span)

@@ -26,15 +26,12 @@ pub(crate) struct Span {
 impl Kvm {
     // The physical addresses that the kernel addresses from this one on stand for.
     pub(crate) fn span_at<S: Site>(&self, site: &mut S, va: u64) -> Result<Span, ReadFault>
-        requires { Told (S.told site.old) (StandsFor self.now) }
-        ensures span { Told (S.told site.old) (λ c. (f : List ℕ) → file_of c self.now.name ≡ Some f → IsSpan (placed f self.now.sections) va result) }
+        requires { Told (S.seen site.old).told (StandsFor self.now) }
+        ensures span { Told (S.seen site.old).told (λ c. (f : List ℕ) → file_of c self.now.name ≡ Some f → IsSpan (placed f self.now.sections) va result) }
         ensures some { IfOk result (λ span. 0 < span.len) }
         ensures fault { IsOfAddress result }
-        ensures same { S.told site.new ≡ S.told site.old }
-        ensures size { S.part_size site.new ≡ S.part_size site.old }
-        ensures block { S.block_size site.new ≡ S.block_size site.old }
-        ensures count { S.faults site.old ≤ S.faults site.new }
-        ensures cause { OnSiteFault result (Rose (S.faults site.old) (S.faults site.new)) }
+        ensures untouched { Untouched (S.seen site.old) (S.seen site.new) }
+        ensures cause { IsErrOf result SiteFault → Rose (S.seen site.old).faults (S.seen site.new).faults }
     {
         let header = self.header();
         if is_by_window(header, va) {
@@ -48,16 +45,13 @@ impl Kvm {
 
     // The same for an address that is looked for in the kernel window.
     fn window_span<S: Site>(&self, site: &mut S, va: u64) -> Result<Span, ReadFault>
-        requires stands { Told (S.told site.old) (StandsFor self.now) }
+        requires stands { Told (S.seen site.old).told (StandsFor self.now) }
         requires window { IsTrue (is_by_window self.now.sections.header va) }
-        ensures span { Told (S.told site.old) (λ c. (f : List ℕ) → file_of c self.now.name ≡ Some f → IsSpan (placed f self.now.sections) va result) }
+        ensures span { Told (S.seen site.old).told (λ c. (f : List ℕ) → file_of c self.now.name ≡ Some f → IsSpan (placed f self.now.sections) va result) }
         ensures some { IfOk result (λ span. 0 < span.len) }
         ensures fault { IsOfAddress result }
-        ensures same { S.told site.new ≡ S.told site.old }
-        ensures size { S.part_size site.new ≡ S.part_size site.old }
-        ensures block { S.block_size site.new ≡ S.block_size site.old }
-        ensures count { S.faults site.old ≤ S.faults site.new }
-        ensures cause { OnSiteFault result (Rose (S.faults site.old) (S.faults site.new)) }
+        ensures untouched { Untouched (S.seen site.old) (S.seen site.new) }
+        ensures cause { IsErrOf result SiteFault → Rose (S.seen site.old).faults (S.seen site.new).faults }
     {
         let header = self.header();
         let place = self.directory() + 8 * entry_index(header, va);
@@ -72,16 +66,13 @@ impl Kvm {
 
     // The same by the directory's entry of this kind, as far as it is the entry of the addresses.
     fn entry_span<S: Site>(&self, site: &mut S, va: u64, kind: Kind) -> Result<Span, ReadFault>
-        requires stands { Told (S.told site.old) (StandsFor self.now) }
+        requires stands { Told (S.seen site.old).told (StandsFor self.now) }
         requires above { self.now.sections.header.kernbase ≤ va }
-        ensures span { Told (S.told site.old) (λ c. (f : List ℕ) → file_of c self.now.name ≡ Some f → IsSpan (λ a. by_entry f self.now.sections a kind) va result) }
+        ensures span { Told (S.seen site.old).told (λ c. (f : List ℕ) → file_of c self.now.name ≡ Some f → IsSpan (λ a. by_entry f self.now.sections a kind) va result) }
         ensures some { IfOk result (λ span. 0 < span.len) }
         ensures fault { IsOfAddress result }
-        ensures same { S.told site.new ≡ S.told site.old }
-        ensures size { S.part_size site.new ≡ S.part_size site.old }
-        ensures block { S.block_size site.new ≡ S.block_size site.old }
-        ensures count { S.faults site.old ≤ S.faults site.new }
-        ensures cause { OnSiteFault result (Rose (S.faults site.old) (S.faults site.new)) }
+        ensures untouched { Untouched (S.seen site.old) (S.seen site.new) }
+        ensures cause { IsErrOf result SiteFault → Rose (S.seen site.old).faults (S.seen site.new).faults }
     {
         match kind {
             Kind::Absent => Err(ReadFault::Address(AddressFault::NotMapped(va))),
@@ -92,16 +83,13 @@ impl Kvm {
 
     // The same by the table at this physical address.
     fn table_span<S: Site>(&self, site: &mut S, va: u64, table: u64) -> Result<Span, ReadFault>
-        requires stands { Told (S.told site.old) (StandsFor self.now) }
-        ensures span { Told (S.told site.old) (λ c. (f : List ℕ) → file_of c self.now.name ≡ Some f
+        requires stands { Told (S.seen site.old).told (StandsFor self.now) }
+        ensures span { Told (S.seen site.old).told (λ c. (f : List ℕ) → file_of c self.now.name ≡ Some f
             → IsSpan (λ a. by_table f self.now.sections.header.arch a (page_offset self.now.sections table)) va result) }
         ensures some { IfOk result (λ span. 0 < span.len) }
         ensures fault { IsOfAddress result }
-        ensures same { S.told site.new ≡ S.told site.old }
-        ensures size { S.part_size site.new ≡ S.part_size site.old }
-        ensures block { S.block_size site.new ≡ S.block_size site.old }
-        ensures count { S.faults site.old ≤ S.faults site.new }
-        ensures cause { OnSiteFault result (Rose (S.faults site.old) (S.faults site.new)) }
+        ensures untouched { Untouched (S.seen site.old) (S.seen site.new) }
+        ensures cause { IsErrOf result SiteFault → Rose (S.seen site.old).faults (S.seen site.new).faults }
     {
         let place = match self.find(u128::from(table)) {
             Some(place) => place,
@@ -116,13 +104,10 @@ impl Kvm {
 
     // The entry at a place of the file.
     fn read_entry<S: Site>(&self, site: &mut S, place: u64) -> Result<u64, Failed>
-        requires inside { Told (S.told site.old) (λ c. IsSomeAnd (file_of c self.now.name) (λ f. place + 8 ≤ length f)) }
-        ensures entry { IfOk result (λ bits. Told (S.told site.old) (λ c. (f : List ℕ) → file_of c self.now.name ≡ Some f → bits ≡ u64_le_at f place)) }
-        ensures same { S.told site.new ≡ S.told site.old }
-        ensures size { S.part_size site.new ≡ S.part_size site.old }
-        ensures block { S.block_size site.new ≡ S.block_size site.old }
-        ensures count { S.faults site.old ≤ S.faults site.new }
-        ensures cause { OnErr result (Rose (S.faults site.old) (S.faults site.new)) }
+        requires inside { Told (S.seen site.old).told (λ c. IsSomeAnd (file_of c self.now.name) (λ f. place + 8 ≤ length f)) }
+        ensures entry { IfOk result (λ bits. Told (S.seen site.old).told (λ c. (f : List ℕ) → file_of c self.now.name ≡ Some f → bits ≡ u64_le_at f place)) }
+        ensures untouched { Untouched (S.seen site.old) (S.seen site.new) }
+        ensures cause { OnErr result (Rose (S.seen site.old).faults (S.seen site.new).faults) }
     {
         let mut bytes = [0; 8];
         site.read_file(self.name(), place, &mut bytes)?;

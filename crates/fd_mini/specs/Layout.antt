@@ -1,16 +1,26 @@
--- What differs between the header pages of the architectures, in their current versions: MINIDUMP_MAGIC,
--- MINIDUMP_VERSION and struct minidumphdr (sys/amd64/include, sys/arm64/include and sys/riscv/include, minidump.h).
-use Rattle.std.specs.Prelude.{ℕ, List, [], ◌∷◌, ◌++◌, true, false, Option, find, codes}
+-- What differs between the header pages of the architectures and of their versions: MINIDUMP_MAGIC, MINIDUMP_VERSION and
+-- struct minidumphdr (sys/amd64/include, sys/arm64/include and sys/riscv/include, minidump.h).
+use Rattle.std.specs.Prelude.{ℕ, ◌+◌, ◌*◌, ◌^◌, Bool, true, false, ◌==◌, nat_le, List, [], ◌∷◌, ◌++◌, Option, find, codes}
 use Rattle.std.specs.Str.{bytes_eq}
+use Rattle.fd_bytes.specs.Profile.{profile_of}
 use Rattle.fd_bytes.specs.declared.arch.Arch.{Arch}
 use Rattle.fd_bytes.specs.declared.arch.Arch.TheVariants.{Amd64, Arm64, Riscv}
+use Rattle.fd_mini.specs.declared.header.MiniHeader.{MiniHeader}
 use Rattle.fd_mini.specs.declared.layout.Layout.{Layout}
 
--- the current version, and whether the page has the fields dmapphys and flags
-abbrev pub layout_of : Arch → Layout
-layout_of Amd64 = record { version = 3; has_dmapphys = false; has_flags = false }
-layout_of Arm64 = record { version = 3; has_dmapphys = true; has_flags = true }
-layout_of Riscv = record { version = 2; has_dmapphys = true; has_flags = false }
+-- a version that is read and written: the current one
+abbrev pub has_version : Arch → (version : ℕ) → Bool
+has_version arch version = version == (profile_of arch).minidump_version
+
+-- whether the page of a version has the fields dmapphys and flags
+abbrev pub layout_of : Arch → (version : ℕ) → Layout
+layout_of Amd64 version = record { has_dmapphys = false; has_flags = false }
+layout_of Arm64 version = record { has_dmapphys = true; has_flags = nat_le 3 version }
+layout_of Riscv version = record { has_dmapphys = true; has_flags = false }
+
+-- how many bytes of addresses an entry of the page directory maps: 4096 at height 0, 512 times as many at each height above
+abbrev pub unit_of : MiniHeader → ℕ
+unit_of h = 2 ^ (12 + 9 * (profile_of h.arch).directory_height)
 
 -- the magic, with zeros to 24 bytes
 abbrev pub magic_of : Arch → List ℕ

@@ -13,7 +13,18 @@ when has_field bytes = if has_field then bytes else []
 -- the fields in their order
 abbrev pub front_of : MiniHeader → List ℕ
 front_of h =
-    magic_of h.arch ++ to_le_bytes w32 h.version ++ to_le_bytes w32 h.msgbufsize ++ to_le_bytes w32 h.bitmapsize ++ to_le_bytes w32 h.pmapsize ++ to_le_bytes w64 h.kernbase ++ when (layout_of h.arch).has_dmapphys (to_le_bytes w64 h.dmapphys) ++ to_le_bytes w64 h.dmapbase ++ to_le_bytes w64 h.dmapend ++ to_le_bytes w32 h.dumpavailsize ++ when (layout_of h.arch).has_flags (to_le_bytes w32 h.flags)
+    let layout = layout_of h.arch h.version in
+    magic_of h.arch
+    ++ to_le_bytes w32 h.version
+    ++ to_le_bytes w32 h.msgbufsize
+    ++ to_le_bytes w32 h.bitmapsize
+    ++ to_le_bytes w32 h.pmapsize
+    ++ to_le_bytes w64 h.kernbase
+    ++ when layout.has_dmapphys (to_le_bytes w64 h.dmapphys)
+    ++ to_le_bytes w64 h.dmapbase
+    ++ to_le_bytes w64 h.dmapend
+    ++ to_le_bytes w32 h.dumpavailsize
+    ++ when layout.has_flags (to_le_bytes w32 h.flags)
 
 -- a page that begins with these bytes and is zero after them
 abbrev pub filled : List ℕ → List ℕ
@@ -30,7 +41,8 @@ shift_of has_dmapphys = if has_dmapphys then 8 else 0
 -- the fields of an architecture's header page; the fields after dmapphys stand behind it, where there is one
 abbrev pub fields_in : Arch → List ℕ → MiniHeader
 fields_in arch page =
-    let shift = shift_of (layout_of arch).has_dmapphys in
+    let layout = layout_of arch (u32_le_at page 24) in
+    let shift = shift_of layout.has_dmapphys in
     record {
       arch = arch;
       version = u32_le_at page 24;
@@ -38,9 +50,9 @@ fields_in arch page =
       bitmapsize = u32_le_at page 32;
       pmapsize = u32_le_at page 36;
       kernbase = u64_le_at page 40;
-      dmapphys = if (layout_of arch).has_dmapphys then u64_le_at page 48 else 0;
+      dmapphys = if layout.has_dmapphys then u64_le_at page 48 else 0;
       dmapbase = u64_le_at page (48 + shift);
       dmapend = u64_le_at page (56 + shift);
       dumpavailsize = u32_le_at page (64 + shift);
-      flags = if (layout_of arch).has_flags then u32_le_at page (68 + shift) else 0;
+      flags = if layout.has_flags then u32_le_at page (68 + shift) else 0;
     }

@@ -2,12 +2,12 @@
 use Rattle.std.specs.Prelude.{ℕ, ◌%◌, ◌^◌, ◌==◌, nat_le, if◌then◌else◌, List, take, Option, Some, None, Result, Ok, Err}
 use Rattle.fd_bytes.specs.Field.{u32_le_at}
 use Rattle.fd_bytes.specs.declared.arch.Arch.{Arch}
-use Rattle.fd_mini.specs.Layout.{layout_of, arch_of_magic}
+use Rattle.fd_mini.specs.Layout.{has_version, arch_of_magic}
 use Rattle.fd_mini.specs.Page.{fields_in}
 use Rattle.fd_mini.specs.declared.header.MiniHeader.{MiniHeader}
-use Rattle.fd_mini.specs.declared.read.MiniFault.{MiniFault}
-use Rattle.fd_mini.specs.declared.read.MiniFault.TheVariants.{BadMagic, UnknownVersion, BigGranule, TooLarge}
-use Rattle.fd_mini.specs.declared.read.MiniField.TheVariants.{DumpAvail, Bitmap}
+use Rattle.fd_mini.specs.declared.mini_fault.MiniFault.{MiniFault}
+use Rattle.fd_mini.specs.declared.mini_fault.MiniFault.TheVariants.{BadMagic, UnknownVersion, BigGranule, TooLarge}
+use Rattle.fd_mini.specs.declared.mini_fault.MiniField.TheVariants.{DumpAvail, Bitmap}
 
 -- a bitmap of at most 2^26 bytes
 abbrev pub bitmap_within : MiniHeader → Result MiniHeader MiniFault
@@ -21,15 +21,15 @@ avail_within h = if nat_le h.dumpavailsize (2 ^ 20) then bitmap_within h else Er
 abbrev pub within_limits : MiniHeader → Result MiniHeader MiniFault
 within_limits h = if h.flags % 4 == 0 then avail_within h else Err (BigGranule h.flags)
 
--- the current version
-abbrev pub of_current_version : Arch → List ℕ → Result MiniHeader MiniFault
-of_current_version arch page =
-    if u32_le_at page 24 == (layout_of arch).version then within_limits (fields_in arch page) else Err (UnknownVersion (u32_le_at page 24))
+-- a version that is known
+abbrev pub of_known_version : Arch → List ℕ → Result MiniHeader MiniFault
+of_known_version arch page =
+    if has_version arch (u32_le_at page 24) then within_limits (fields_in arch page) else Err (UnknownVersion (u32_le_at page 24))
 
 -- a magic that is known
 abbrev pub of_known_magic : Option Arch → List ℕ → Result MiniHeader MiniFault
 of_known_magic None page = Err BadMagic
-of_known_magic (Some arch) page = of_current_version arch page
+of_known_magic (Some arch) page = of_known_version arch page
 
 -- what reading a page answers
 unfoldable pub header_in : List ℕ → Result MiniHeader MiniFault

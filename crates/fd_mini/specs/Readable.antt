@@ -1,6 +1,6 @@
 -- The headers that a page holds and a reader takes.
-use Rattle.std.specs.Prelude.{◌≡◌, ◌%◌, ◌^◌, ◌<◌, ◌≤◌, false}
-use Rattle.fd_mini.specs.Layout.{layout_of}
+use Rattle.std.specs.Prelude.{◌≡◌, ◌%◌, ◌^◌, ◌<◌, ◌≤◌, false, IsTrue}
+use Rattle.fd_mini.specs.Layout.{has_version, layout_of}
 use Rattle.fd_mini.specs.declared.header.MiniHeader.{MiniHeader}
 
 -- each number is within the type of its field
@@ -16,12 +16,12 @@ pub record IsTyped (h : MiniHeader) : Type 0 where
   pub dumpavailsize : h.dumpavailsize < 2 ^ 32
   pub flags : h.flags < 2 ^ 32
 
--- a header of the current version, with 0 in each field that the page doesn't have, within the limits
+-- a header of a version that is known, with 0 in each field that the page doesn't have, within the limits
 pub record IsReadable (h : MiniHeader) : Type 0 where
   pub typed : IsTyped h
-  pub current : h.version ≡ (layout_of h.arch).version
-  pub no_dmapphys : (layout_of h.arch).has_dmapphys ≡ false → h.dmapphys ≡ 0
-  pub no_flags : (layout_of h.arch).has_flags ≡ false → h.flags ≡ 0
+  pub known : IsTrue (has_version h.arch h.version)
+  pub no_dmapphys : (layout_of h.arch h.version).has_dmapphys ≡ false → h.dmapphys ≡ 0
+  pub no_flags : (layout_of h.arch h.version).has_flags ≡ false → h.flags ≡ 0
   pub small_granule : h.flags % 4 ≡ 0
   pub avail_within : h.dumpavailsize ≤ 2 ^ 20
   pub bitmap_within : h.bitmapsize ≤ 2 ^ 26

@@ -1,36 +1,52 @@
-//! What differs between the header pages of the architectures.
-ghost use Rattle.std.specs.Prelude.{◌≡◌, length};
-ghost use Rattle.fd_mini.specs.Layout.{layout_of, magic_of, arch_of_magic};
+//! What differs between the header pages of the architectures and of their versions.
+ghost use Rattle.std.specs.Prelude.{◌≡◌, ◌^◌, ◌<◌, ◌≤◌, length};
+ghost use Rattle.fd_mini.specs.Layout.{arch_of_magic, has_version, layout_of, magic_of, unit_of};
 
+use crate::header::MiniHeader;
 use fd_bytes::Arch;
 
-/// The current version of an architecture's header page, and which of the fields it has that not all have.
+/// Which of the fields a header page has that not all have.
 #[derive(Clone, Copy, PartialEq, Eq, Debug)]
 pub(crate) struct Layout {
-    pub(crate) version: u32,
     pub(crate) has_dmapphys: bool,
     pub(crate) has_flags: bool,
 }
 
-pub(crate) fn layout_of(arch: Arch) -> Layout
-    ensures { result ≡ layout_of arch }
+/// Whether header pages of this version are read and written: whether it is the architecture's current one.
+pub fn has_version(arch: Arch, version: u32) -> bool
+    ensures { result ≡ has_version arch version }
+{
+    version == arch.profile().minidump_version
+}
+
+pub(crate) fn layout_of(arch: Arch, version: u32) -> Layout
+    ensures { result ≡ layout_of arch version }
 {
     match arch {
         Arch::Amd64 => Layout {
-            version: 3,
             has_dmapphys: false,
             has_flags: false,
         },
         Arch::Arm64 => Layout {
-            version: 3,
             has_dmapphys: true,
-            has_flags: true,
+            has_flags: 3 <= version,
         },
         Arch::Riscv => Layout {
-            version: 2,
             has_dmapphys: true,
             has_flags: false,
         },
+    }
+}
+
+/// How many bytes of kernel addresses an entry of the page directory maps.
+pub fn unit_of(header: &MiniHeader) -> u64
+    ensures value { result ≡ unit_of header.now }
+    ensures some { 0 < result }
+    ensures small { result ≤ 2 ^ 21 }
+{
+    match header.arch.profile().directory_height {
+        0 => 1 << 12,
+        _ => 1 << 21,
     }
 }
 

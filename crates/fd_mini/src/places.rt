@@ -1,5 +1,5 @@
 //! Where the sections of a minidump begin.
-ghost use Rattle.std.specs.Prelude.{◌≡◌, ◌≤◌, ◌^◌};
+ghost use Rattle.std.specs.Prelude.{◌≡◌, ◌+◌, ◌≤◌, ◌^◌};
 ghost use Rattle.fd_mini.specs.Places.{places_of, rounded_up};
 
 use crate::header::MiniHeader;
@@ -20,10 +20,10 @@ pub fn places_of(header: &MiniHeader) -> Places
     ensures { result ≡ places_of header.now }
 {
     let msgbuf = 4096;
-    let avail = msgbuf + rounded_up(header.msgbufsize);
-    let bitmap = avail + rounded_up(header.dumpavailsize);
-    let directory = bitmap + rounded_up(header.bitmapsize);
-    let pages = directory + rounded_up(header.pmapsize);
+    let avail = msgbuf + rounded_up(u64::from(header.msgbufsize));
+    let bitmap = avail + rounded_up(u64::from(header.dumpavailsize));
+    let directory = bitmap + rounded_up(u64::from(header.bitmapsize));
+    let pages = directory + rounded_up(u64::from(header.pmapsize));
     Places {
         msgbuf,
         avail,
@@ -33,10 +33,11 @@ pub fn places_of(header: &MiniHeader) -> Places
     }
 }
 
-// The size of a section that has this many bytes.
-fn rounded_up(size: u32) -> u64
+/// The least multiple of 4096 that isn't below a size: how many bytes a section of this size takes.
+pub fn rounded_up(size: u64) -> u64
+    requires { size ≤ 2 ^ 63 }
     ensures value { result ≡ rounded_up size }
-    ensures bounded { result ≤ 2 ^ 32 }
+    ensures bounded { result ≤ size + 4095 }
 {
-    u64::from(size).div_ceil(4096) * 4096
+    size.div_ceil(4096) * 4096
 }

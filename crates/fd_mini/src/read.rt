@@ -5,28 +5,9 @@ ghost use Rattle.fd_mini.specs.Page.{fields_in, shift_of};
 ghost use Rattle.fd_mini.specs.Read.{header_in, within_limits};
 
 use crate::header::MiniHeader;
-use crate::layout::{arch_of_magic, layout_of};
+use crate::layout::{arch_of_magic, has_version, layout_of};
+use crate::mini_fault::{MiniFault, MiniField};
 use fd_bytes::{Arch, get_u32_le, get_u64_le};
-
-/// Why a page isn't the header page of a minidump that can be read.
-#[derive(Clone, Copy, PartialEq, Eq, Debug)]
-pub enum MiniFault {
-    /// The page begins with no architecture's magic.
-    BadMagic,
-    /// The version isn't the architecture's current one.
-    UnknownVersion(u32),
-    /// The flags name another granule than 4 KiB; they are given whole.
-    BigGranule(u32),
-    /// A section is larger than its limit.
-    TooLarge(MiniField, u32),
-}
-
-/// A section whose size has a limit.
-#[derive(Clone, Copy, PartialEq, Eq, Debug)]
-pub enum MiniField {
-    DumpAvail,
-    Bitmap,
-}
 
 /// The fields of a header page, or the first reason to refuse it. Bytes past the fields are ignored.
 #[tactic(auto, unfolding(crate::specs::Read::header_in))]
@@ -36,7 +17,7 @@ pub fn read_header(page: &[u8; 4096]) -> Result<MiniHeader, MiniFault>
     match arch_of_magic(&page[..24]) {
         Some(arch) => {
             let version = get_u32_le(&page[..], 24);
-            if version != layout_of(arch).version {
+            if !has_version(arch, version) {
                 return Err(MiniFault::UnknownVersion(version));
             }
             within_limits(fields_in(arch, &page[..]))
@@ -66,11 +47,12 @@ fn fields_in(arch: Arch, page: &[u8]) -> MiniHeader
     requires { 80 ≤ length page.now }
     ensures { result ≡ fields_in arch page.now }
 {
-    let layout = layout_of(arch);
+    let version = get_u32_le(page, 24);
+    let layout = layout_of(arch, version);
     let shift = shift_of(layout.has_dmapphys);
     MiniHeader {
         arch,
-        version: get_u32_le(page, 24),
+        version,
         msgbufsize: get_u32_le(page, 28),
         bitmapsize: get_u32_le(page, 32),
         pmapsize: get_u32_le(page, 36),

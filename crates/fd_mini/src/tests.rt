@@ -1,6 +1,6 @@
 //! Header pages byte by byte, the places of their sections, and what is refused.
-ghost use Rattle.std.specs.Prelude.{◌≡◌};
-ghost use Rattle.fd_mini.specs.Layout.{layout_of};
+ghost use Rattle.std.specs.Prelude.{IsTrue};
+ghost use Rattle.fd_mini.specs.Layout.{has_version};
 
 use crate::{MiniFault, MiniField, MiniHeader, Places, places_of, read_header, write_header};
 use fd_bytes::Arch;
@@ -37,7 +37,7 @@ const AMD: MiniHeader = MiniHeader {
 };
 
 fn written(header: &MiniHeader) -> [u8; 4096]
-    requires { header.now.version ≡ (layout_of header.now.arch).version }
+    requires { IsTrue (has_version header.now.arch header.now.version) }
 {
     let mut page = [0xff; 4096];
     write_header(header, &mut page);

@@ -1,20 +1,20 @@
 //! Writing a header page.
-ghost use Rattle.std.specs.Prelude.{◌≡◌, ◌+◌, ◌≤◌, ◌++◌, length};
+ghost use Rattle.std.specs.Prelude.{◌≡◌, ◌+◌, ◌≤◌, ◌++◌, length, IsTrue};
 ghost use Rattle.std.specs.Int.{w32, w64, to_le_bytes};
-ghost use Rattle.fd_mini.specs.Layout.{layout_of};
+ghost use Rattle.fd_mini.specs.Layout.{has_version};
 ghost use Rattle.fd_mini.specs.Page.{page_of, when};
 
 use crate::front::Front;
 use crate::header::MiniHeader;
 use crate::layout::{layout_of, magic_of};
 
-/// Writes the header page of these fields, with zeros after the last. The version has to be the architecture's
-/// current one.
+/// Writes the header page of these fields, with zeros after the last. The version has to be one of the
+/// architecture's that are known.
 pub fn write_header(header: &MiniHeader, out: &mut [u8; 4096])
-    requires { header.now.version ≡ (layout_of header.now.arch).version }
+    requires { IsTrue (has_version header.now.arch header.now.version) }
     ensures { out.new ≡ page_of header.now }
 {
-    let layout = layout_of(header.arch);
+    let layout = layout_of(header.arch, header.version);
     let mut front = Front::new();
     front.put(magic_of(header.arch));
     front.put_u32(header.version);

@@ -1,5 +1,7 @@
+pub mod Blocks
 mod BodyWrites
 mod HeaderBlocks
+pub mod Places
 mod Progress
 mod Sectors
-mod WholeDump
+pub mod WholeDump

@@ -1,11 +1,12 @@
 -- Planned writes that began, stopped, or came to their end, and what follows for longer plans.
-use Rattle.std.proofs.Common.{◌≡◌, inl, inr, ℕ, ◌+◌, ◌*◌, ◌/◌, ◌<◌, ◌≤◌, List, [], ◌∷◌, ◌++◌, length, take, true, Option, Result, Ok, Err, OnErr, refl, sym, ◌∙◌, ap, subst, arith, length-append}
+use Rattle.std.proofs.Common.{◌≡◌, inl, inr, ℕ, ◌+◌, ◌*◌, ◌/◌, ◌<◌, ◌≤◌, List, [], ◌∷◌, ◌++◌, length, take, true, Option, Result, Ok, Err, OnErr, refl, sym, ◌∙◌, ap, arith, length-append}
 use Rattle.std.proofs.lemmas.List.{length-replicate, length-take-le, take-append-le, take-take}
 use Rattle.std.proofs.Math.Seq.{take-append-add}
-use Rattle.fd_site.specs.Journal.{Entry, Sector, all_kept, kept_sectors}
+use Rattle.fd_site.specs.Begun.{IsBegun}
+use Rattle.fd_site.specs.Journal.{Entry, Part, Sector, all_kept, kept_sectors}
 use Rattle.fd_site.specs.Contents.{Contents, Adds, IsFailedPart, whole_part, with_entries}
+use Rattle.fd_site.proofs.Begun.{IsBegun-behind, IsBegun-within}
 use Rattle.fd_site.proofs.Told.{with_entries-append, with_entries-nil}
-use Rattle.fd_part.specs.Dump.{IsStartOf}
 use Rattle.fd_part.specs.Writes.{Begins, IsWriteOf, Stops}
 use Rattle.fd_part.proofs.Sectors.{kept_sectors-append, kept_sectors-one, length-whole_part, whole_part-front}
 
@@ -14,17 +15,6 @@ pub on_err : {T E Q : Type 0} (r : Result T E) → Q → OnErr r Q
 on_err (Ok x) q = tt
 on_err (Err e) q = q
 
--- a start behind entries that are done, and a start of a longer list
-pub start_behind : (es fs gs : List Entry) → IsStartOf fs gs → IsStartOf (es ++ fs) (es ++ gs)
-start_behind [] fs gs start = start
-start_behind (e ∷ es) fs gs start = inl (refl, start_behind es fs gs start)
-
-pub start_of_longer : (es fs gs : List Entry) → IsStartOf es fs → IsStartOf es (fs ++ gs)
-start_of_longer [] fs gs start = tt
-start_of_longer (e ∷ es) [] gs start = absurd start
-start_of_longer (e ∷ es) (f ∷ fs) gs (inl (is, rest)) = inl (is, start_of_longer es fs gs rest)
-start_of_longer (e ∷ es) (f ∷ fs) gs (inr short) = inr short
-
 -- more is planned behind
 module _ (P R : List Entry → Type 0) (more : List Entry) (joins : (us : List Entry) → P us → R (us ++ more)) (old new : Option Contents) where
   abbrev pub begins_first : Begins P old new → Begins R old new
@@ -32,7 +22,7 @@ module _ (P R : List Entry → Type 0) (more : List Entry) (joins : (us : List E
     planned = b.planned ++ more;
     is_planned = joins b.planned b.is_planned;
     added = b.added;
-    start = start_of_longer b.added b.planned more b.start;
+    begun = IsBegun-within b.planned more b.added b.begun;
     told = b.told;
   }
 
@@ -59,7 +49,7 @@ module _ (P Q R : List Entry → Type 0) (joins : (us vs : List Entry) → P us 
     planned = done.0 ++ b.planned;
     is_planned = joins done.0 b.planned done.1 b.is_planned;
     added = done.0 ++ b.added;
-    start = start_behind done.0 b.added b.planned b.start;
+    begun = IsBegun-behind done.0 b.planned b.added b.begun;
     told = behind b.added b.told;
   }
 
@@ -79,25 +69,27 @@ module _ (P Q R : List Entry → Type 0) (joins : (us vs : List Entry) → P us 
       }
 
 -- one write that failed, of these bytes or of a front of them
-begins_part : (at : ℕ) (bytes front : List ℕ) (old new : Option Contents) → length front ≤ length bytes → ((n : ℕ) → n ≤ length front → take n front ≡ take n bytes)
-    → Adds (IsFailedPart at front) old new → Begins (IsWriteOf at bytes) old new
+begins_part : (at : ℕ) (bytes front : List ℕ) (old new : Option Contents) → length front ≤ length bytes
+    → ((n : ℕ) → n ≤ length front → take n front ≡ take n bytes) → Adds (IsFailedPart at front) old new → Begins (IsWriteOf at bytes) old new
 begins_part at bytes front old new shorter is_front (added, failed, told) = record {
   planned = whole_part at bytes ∷ [];
   is_planned = refl;
   added = added;
-  start = start added failed;
+  begun = begun added failed;
   told = told;
 }
   where
-    start : (es : List Entry) → IsFailedPart at front es → IsStartOf es (whole_part at bytes ∷ [])
-    start es (inl none) = subst (λ (l : List Entry). IsStartOf l (whole_part at bytes ∷ [])) (sym none) tt
-    start es (inr (kept, fits, one)) =
-        subst (λ (l : List Entry). IsStartOf l (whole_part at bytes ∷ [])) (sym one) (inr (refl, (refl, omega (arith, fits, shorter), is_front (length kept * 512) fits)))
+    begun : (es : List Entry) → IsFailedPart at front es → IsBegun (whole_part at bytes ∷ []) es
+    begun [] failed = tt
+    begun (e ∷ es) (inl none) = inr (inl none)
+    begun (e ∷ es) (inr (kept, fits, one)) =
+        inr (inr (kept, omega (arith, fits, shorter), one ∙ ap (λ (l : List ℕ). Part at l kept ∷ []) (is_front (length kept * 512) fits)))
 
 pub begins_write : (at : ℕ) (bytes : List ℕ) (old new : Option Contents) → Adds (IsFailedPart at bytes) old new → Begins (IsWriteOf at bytes) old new
 begins_write at bytes old new failed = begins_part at bytes bytes old new (omega arith) (λ n le. refl) failed
 
-pub begins_front : (at : ℕ) (bytes : List ℕ) (n : ℕ) (old new : Option Contents) → n ≤ length bytes → Adds (IsFailedPart at (take n bytes)) old new → Begins (IsWriteOf at bytes) old new
+pub begins_front : (at : ℕ) (bytes : List ℕ) (n : ℕ) (old new : Option Contents) → n ≤ length bytes
+    → Adds (IsFailedPart at (take n bytes)) old new → Begins (IsWriteOf at bytes) old new
 begins_front at bytes n old new le failed =
     let size : length (take n bytes) ≡ n = length-take-le n bytes le in
     begins_part at bytes (take n bytes) old new (omega (arith, size, le)) (λ m fits. take-take m n bytes (omega (arith, size, fits))) failed
@@ -109,7 +101,7 @@ stops_before at bytes n old new none short same = record {
     planned = whole_part at bytes ∷ [];
     is_planned = refl;
     added = [];
-    start = tt;
+    begun = tt;
     told = same ∙ with_entries-nil old;
   };
   sectors = sym (ap (λ k. take k (kept_sectors (whole_part at bytes ∷ []))) none);
@@ -117,7 +109,8 @@ stops_before at bytes n old new none short same = record {
 }
 
 -- one write of the first sectors alone
-pub stops_within : (at : ℕ) (bytes : List ℕ) (n : ℕ) (old new : Option Contents) → n < length bytes / 512 → new ≡ with_entries old (whole_part at (take (n * 512) bytes) ∷ [])
+pub stops_within : (at : ℕ) (bytes : List ℕ) (n : ℕ) (old new : Option Contents) → n < length bytes / 512
+    → new ≡ with_entries old (whole_part at (take (n * 512) bytes) ∷ [])
     → Stops (IsWriteOf at bytes) n old new
 stops_within at bytes n old new short told =
     let front : List ℕ = take (n * 512) bytes in
@@ -129,7 +122,8 @@ stops_within at bytes n old new short told =
         planned = whole_part at bytes ∷ [];
         is_planned = refl;
         added = whole_part at front ∷ [];
-        start = inr (refl, (refl, omega (arith, kept, short), ap (λ k. take (k * 512) bytes) (sym kept)));
+        begun =
+            inr (inr (all_kept front, omega (arith, kept, short), ap (λ k. Part at (take (k * 512) bytes) (all_kept front) ∷ []) (sym kept)));
         told = told;
       };
       sectors =

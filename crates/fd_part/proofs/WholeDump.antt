@@ -1,26 +1,20 @@
 -- A dump's parts, one after the other: the body, the leading block, the trailing block.
-use Rattle.std.proofs.Common.{◌≡◌, ℕ, ◌+◌, ◌-◌, ◌*◌, ◌/◌, ◌<◌, ◌≤◌, ◌^◌, List, [], ◌∷◌, ◌++◌, length, take, replicate, Option, Some, None, unwrap_or, IsSomeAnd, IsTrue, refl, sym, ◌∙◌, ap, subst, arith, length-append, append_assoc}
-use Rattle.std.proofs.lemmas.Bool.Decides.{nat_tests}
-use Rattle.std.proofs.lemmas.List.{length-replicate}
+use Rattle.std.proofs.Common.{◌≡◌, ℕ, ◌+◌, ◌-◌, ◌*◌, ◌/◌, ◌<◌, ◌≤◌, ◌^◌, List, [], ◌∷◌, ◌++◌, length, take, Option, Some, None, unwrap_or, IsSomeAnd, IsTrue, refl, sym, ◌∙◌, ap, subst, arith, length-append, append_assoc}
 use Rattle.fd_site.specs.Journal.{Entry, Sector, kept_sectors, sectors_of}
 use Rattle.fd_site.specs.Contents.{Contents, Adds, whole_part, with_entries}
+use Rattle.fd_site.proofs.Begun.{IsBegun-whole}
 use Rattle.fd_kdh.specs.declared.header.Header.{Header}
-use Rattle.fd_kdh.specs.Header.{FitsFields, dump_header}
-use Rattle.fd_kdh.proofs.Headers.{length-dump_header}
-use Rattle.fd_part.specs.Dump.{IsDumpJournal, IsStartedDump, dump_sectors, header_block, writes_from}
+use Rattle.fd_kdh.specs.Header.{FitsFields}
+use Rattle.fd_part.specs.Dump.{IsBegunDump, IsDumpJournal, dump_sectors, header_block, writes_from}
 use Rattle.fd_part.specs.Outcome.{IfStopped, IsStoppedDump}
 use Rattle.fd_part.specs.declared.outcome.Wrote.{Wrote}
 use Rattle.fd_part.specs.declared.outcome.Wrote.TheVariants.{Whole, Stopped}
 use Rattle.fd_part.specs.Partition.{is_good, dump_place, leading_place, trailing_place}
 use Rattle.fd_part.specs.Writes.{Begins, IsWriteOf, IsWritesOf, Stops}
+use Rattle.fd_part.proofs.Blocks.{IsBlock-good, length-header_block}
 use Rattle.fd_part.proofs.Sectors.{kept_sectors-append, kept_sectors-one, kept_sectors-writes_from, length-whole_part}
 use Rattle.fd_part.proofs.Progress.{adds_then, begins_first, begins_then, stops_first, stops_then}
 use Rattle.fd_part.proofs.BodyWrites.{count_of_writes}
-
--- a header block has the size of a block
-pub length-header_block : (h : Header) (block : ℕ) → FitsFields h → 512 ≤ block → length (header_block h block) ≡ block
-length-header_block h block fits low =
-    omega (arith, low, length-dump_header h fits, length-append (dump_header h) (replicate (block - 512) 0), length-replicate {A = ℕ} (block - 512) 0)
 
 -- where the code puts the parts, and what it writes as a block
 pub record IsPlaced (body : List ℕ) (h : Header) (size block at_body at_leading at_trailing : ℕ) (bytes : List ℕ) : Type 0 where
@@ -29,21 +23,17 @@ pub record IsPlaced (body : List ℕ) (h : Header) (size block at_body at_leadin
   pub trailing_at : at_trailing ≡ trailing_place size block
   pub is_block : bytes ≡ header_block h block
 
--- the bounds of a block
-pub good_block : (size block : ℕ) → IsTrue (is_good size block) → (512 ≤ block) × (block ≤ 4096)
-good_block size block good = (grind (arith, nat_tests, good), grind (arith, nat_tests, good))
-
 -- from what the calls answer
 pub is_placed : (body : List ℕ) (h : Header) (size block size_now block_now extent : ℕ) (buffer : List ℕ) → size_now ≡ size → block_now ≡ block → extent ≡ length body
     → ((n : ℕ) → 512 ≤ n → n ≤ 4096 → take n buffer ≡ header_block h n) → IsTrue (is_good size block)
     → IsPlaced body h size block (size_now - block_now - extent) (size_now - block_now - extent - block_now) (size_now - block_now) (take block_now buffer)
 is_placed body h size block size_now block_now extent buffer size_is block_is extent_is buffer_is good =
-    let bounds = good_block size block good in
+    let bounds = IsBlock-good size block good in
     record {
       body_at = omega (arith, size_is, block_is, extent_is);
       leading_at = omega (arith, size_is, block_is, extent_is);
       trailing_at = omega (arith, size_is, block_is);
-      is_block = ap (λ n. take n buffer) block_is ∙ buffer_is block bounds.0 bounds.1;
+      is_block = ap (λ n. take n buffer) block_is ∙ buffer_is block bounds.low bounds.high;
     }
 
 module _ (body : List ℕ) (h : Header) (size block : ℕ) where
@@ -79,8 +69,8 @@ module _ (body : List ℕ) (h : Header) (size block : ℕ) where
       ∙ kept_sectors-append (writes_from at d.pieces) (leading ∷ trailing ∷ [])
       ∙ (λ i. (kept_sectors-writes_from at d.pieces d.sectors ∙ ap (λ (l : List ℕ). sectors_of (whole_part at l)) d.joined) i ++ (sectors_of leading ++ kept_sectors-one trailing i))
 
-  is_started : (old new : Option Contents) (b : Begins IsDump old new) → IsStartedDump body h size block b.added
-  is_started old new b = record { whole = b.planned; is_dump = b.is_planned; start = b.start }
+  is_begun : (old new : Option Contents) (b : Begins IsDump old new) → IsBegunDump body h size block b.added
+  is_begun old new b = record { planned = b.planned; is_dump = b.is_planned; begun = b.begun }
 
   module _ (at_body at_leading at_trailing : ℕ) (bytes : List ℕ) (placed : IsPlaced body h size block at_body at_leading at_trailing bytes) where
     abbrev IsBodyHere : List Entry → Type 0
@@ -179,9 +169,14 @@ module _ (body : List ℕ) (h : Header) (size block : ℕ) where
       stopped_journal None s = absurd (omega (arith, short (2 ^ 64 - 1) s, length-dump_sectors, small, high))
       stopped_journal (Some n) s =
           let sectors = s.sectors ∙ ap (λ (l : List Sector). take n l) (sectors_of_dump s.begins.planned s.begins.is_planned) in
-          (s.begins.added, record { started = is_started old new s.begins; sectors = sectors }, s.begins.told)
+          (s.begins.added, record { begun = is_begun old new s.begins; sectors = sectors }, s.begins.told)
 
 -- where the writer stopped
 pub if_stopped : {P Q : Type 0} (wrote : Wrote) → (P → Q) → IfStopped wrote P → IfStopped wrote Q
 if_stopped Whole f p = tt
 if_stopped Stopped f p = f p
+
+-- a dump that was written whole was begun
+pub IsBegunDump-whole : (body : List ℕ) (h : Header) (size block : ℕ) (journal : List Entry) → IsDumpJournal body h size block journal
+    → IsBegunDump body h size block journal
+IsBegunDump-whole body h size block journal dump = record { planned = journal; is_dump = dump; begun = IsBegun-whole journal }

@@ -1,7 +1,8 @@
 -- What the writer of a dump asks of a partition, whole or stopped.
-use Rattle.std.specs.Prelude.{◌≡◌, ◌⊎◌, ℕ, ◌+◌, ◌-◌, ◌*◌, ◌%◌, ◌≤◌, List, [], ◌∷◌, ◌++◌, length, take, replicate}
+use Rattle.std.specs.Prelude.{◌≡◌, ℕ, ◌+◌, ◌-◌, ◌%◌, List, [], ◌∷◌, ◌++◌, length, replicate}
 use Rattle.std.specs.List.{concat}
-use Rattle.fd_site.specs.Journal.{Entry, Part, Sector, sectors_of}
+use Rattle.fd_site.specs.Begun.{IsBegun}
+use Rattle.fd_site.specs.Journal.{Entry, Sector, sectors_of}
 use Rattle.fd_site.specs.Contents.{whole_part}
 use Rattle.fd_kdh.specs.Header.{dump_header}
 use Rattle.fd_kdh.specs.declared.header.Header.{Header}
@@ -32,22 +33,11 @@ pub record IsDumpJournal (body : List ℕ) (h : Header) (size block : ℕ) (jour
       ∷ whole_part (trailing_place size block) (header_block h block)
       ∷ []
 
--- a write of some of the first sectors of another's bytes, of which any were kept
-abbrev pub IsCutShort : Entry → Entry → Type 0
-IsCutShort (Part at bytes kept) (Part at' all kept') = (at ≡ at') × (length kept * 512 ≤ length all) × (bytes ≡ take (length kept * 512) all)
-IsCutShort e whole = ⊥
-
--- the first entries of a list, the last of them maybe cut short
-abbrev pub IsStartOf : List Entry → List Entry → Type 0
-IsStartOf [] whole = Unit {0}
-IsStartOf (e ∷ es) [] = ⊥
-IsStartOf (e ∷ es) (w ∷ ws) = ((e ≡ w) × IsStartOf es ws) ⊎ ((es ≡ []) × IsCutShort e w)
-
--- a started dump's journal
-pub record IsStartedDump (body : List ℕ) (h : Header) (size block : ℕ) (journal : List Entry) : Type 0 where
-  pub whole : List Entry
-  pub is_dump : IsDumpJournal body h size block whole
-  pub start : IsStartOf journal whole
+-- what a dump began to add: the first of its writes, and what failing the next may add
+pub record IsBegunDump (body : List ℕ) (h : Header) (size block : ℕ) (added : List Entry) : Type 0 where
+  pub planned : List Entry
+  pub is_dump : IsDumpJournal body h size block planned
+  pub begun : IsBegun planned added
 
 -- the sectors of a dump, in the order in which they are written: the body's, the leading block's, the trailing block's
 abbrev pub dump_sectors : List ℕ → Header → ℕ → ℕ → List Sector

@@ -1,4 +1,5 @@
 pub mod Dump
 pub mod Outcome
 pub mod Partition
+pub mod Printed
 pub mod Writes

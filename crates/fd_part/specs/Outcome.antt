@@ -2,15 +2,15 @@
 use Rattle.std.specs.Prelude.{◌≡◌, ℕ, List, take, Result, Ok, Err}
 use Rattle.fd_site.specs.Journal.{Entry, kept_sectors}
 use Rattle.fd_kdh.specs.declared.header.Header.{Header}
-use Rattle.fd_part.specs.Dump.{IsStartedDump, dump_sectors}
+use Rattle.fd_part.specs.Dump.{IsBegunDump, dump_sectors}
 use Rattle.fd_part.specs.declared.outcome.Wrote.{Wrote}
 use Rattle.fd_part.specs.declared.outcome.Wrote.TheVariants.{Whole, Stopped}
 use Rattle.fd_part.specs.declared.outcome.PartFault.{PartFault}
 use Rattle.fd_part.specs.declared.outcome.PartFault.TheVariants.{NoRoom, SiteFault}
 
--- a stopped dump's journal: a started one's, of which the first n sectors were kept
+-- a stopped dump's journal: of a begun one, the first n sectors were kept
 pub record IsStoppedDump (body : List ℕ) (h : Header) (size block n : ℕ) (journal : List Entry) : Type 0 where
-  pub started : IsStartedDump body h size block journal
+  pub begun : IsBegunDump body h size block journal
   pub sectors : kept_sectors journal ≡ take n (dump_sectors body h size block)
 
 -- P where all was written
@@ -33,14 +33,8 @@ abbrev pub OnStopped : Result Wrote PartFault → Type 0 → Type 0
 OnStopped (Ok wrote) P = IfStopped wrote P
 OnStopped (Err fault) P = Unit {0}
 
--- P of the two numbers where it is that the partition has no room
-abbrev pub OnNoRoom : Result Wrote PartFault → (ℕ → ℕ → Type 0) → Type 0
+-- P where it is that the partition has no room
+abbrev pub OnNoRoom : Result Wrote PartFault → Type 0 → Type 0
 OnNoRoom (Ok wrote) P = Unit {0}
-OnNoRoom (Err (NoRoom need have)) P = P need have
+OnNoRoom (Err (NoRoom room)) P = P
 OnNoRoom (Err SiteFault) P = Unit {0}
-
--- P where it is that the site failed
-abbrev pub OnSiteFault : Result Wrote PartFault → Type 0 → Type 0
-OnSiteFault (Ok wrote) P = Unit {0}
-OnSiteFault (Err (NoRoom need have)) P = Unit {0}
-OnSiteFault (Err SiteFault) P = P

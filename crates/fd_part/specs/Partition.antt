@@ -1,5 +1,5 @@
 -- A partition, and where a dump stands on it.
-use Rattle.std.specs.Prelude.{◌≢◌, ℕ, ◌+◌, ◌-◌, ◌*◌, ◌%◌, Bool, ◌&&◌, ◌||◌, ◌==◌, nat_lt, List, length, take, slice_range}
+use Rattle.std.specs.Prelude.{◌≢◌, ℕ, ◌+◌, ◌-◌, ◌*◌, ◌%◌, Bool, ◌&&◌, ◌||◌, ◌==◌, nat_lt, nat_le, List, length, take, slice_range}
 use Rattle.fd_kdh.specs.Header.{live_magic}
 
 -- the sizes of a block in bytes
@@ -13,6 +13,10 @@ is_good size block = is_block block && nat_lt 0 size && size % block == 0
 -- how many bytes a dump of this extent needs: 65536 that no dump touches, itself, and two header blocks
 abbrev pub need_of : ℕ → ℕ → ℕ
 need_of block extent = 65536 + extent + 2 * block
+
+-- whether a partition has them
+abbrev pub has_room : (size block extent : ℕ) → Bool
+has_room size block extent = nat_le (need_of block extent) size
 
 -- where the leading block, the dump and the trailing block begin
 abbrev pub leading_place : (size block extent : ℕ) → ℕ

@@ -3,19 +3,18 @@
 ghost use Rattle.std.specs.Prelude.{◌≡◌, ℕ, ◌+◌, ◌*◌, ◌%◌, ◌<◌, ◌≤◌, ◌^◌, length, take, IfOk, IfSome, IsErrOf, IsSomeAnd, IsTrue, OnErr};
 ghost use Rattle.fd_site.specs.Contents.{Adds};
 ghost use Rattle.fd_site.specs.Fault.{Rose};
+ghost use Rattle.fd_site.specs.Seen.{Frame};
 ghost use Rattle.fd_kdh.specs.Header.{FitsFields};
-ghost use Rattle.fd_part.specs.Dump.{IsDumpJournal, IsStartedDump, dump_sectors, header_block};
-ghost use Rattle.fd_part.specs.Outcome.{IfStopped, IfWhole, IsStoppedDump, OnNoRoom, OnSiteFault, OnStopped, OnWhole};
+ghost use Rattle.fd_part.specs.Dump.{IsBegunDump, IsDumpJournal, dump_sectors, header_block};
+ghost use Rattle.fd_part.specs.Outcome.{IfStopped, IfWhole, IsStoppedDump, OnNoRoom, OnStopped, OnWhole};
 ghost use Rattle.fd_part.specs.Partition.{is_good, need_of};
 ghost use Rattle.fd_part.specs.Writes.{Begins, Stops};
 
-use crate::outcome::{PartFault, Wrote};
+use crate::outcome::{NoRoom, PartFault, Wrote};
+use crate::partition::need_of;
 use crate::writes::{write_bytes, write_pieces};
 use fd_kdh::{Header, encode};
 use fd_site::{Failed, Pieces, Site};
-
-/// The bytes at the partition's start that no dump touches (`SIZEOF_METADATA` of `kern_shutdown.c`).
-const UNTOUCHED: u64 = 65536;
 
 // A header's bytes, and zeros to the end of the largest block.
 fn padded(header: &Header) -> [u8; 4096]
@@ -34,19 +33,17 @@ fn write_parts<S: Site, P: Pieces>(
     header: &Header,
     left: u64,
 ) -> Result<Wrote, Failed>
-    requires partition { IsTrue (is_good (S.part_size site.old) (S.block_size site.old)) }
+    requires partition { IsTrue (is_good (S.seen site.old).size (S.seen site.old).block) }
     requires dumpextent { header.now.dumpextent ≡ length (P.to_come pieces.old) }
     requires pages { length (P.to_come pieces.old) % 4096 ≡ 0 }
     requires labels { FitsFields header.now }
-    requires room { need_of (S.block_size site.old) (length (P.to_come pieces.old)) ≤ S.part_size site.old }
-    ensures whole { IfOk result (λ wrote. IfWhole wrote (Adds (IsDumpJournal (P.to_come pieces.old) header.now (S.part_size site.old) (S.block_size site.old)) (S.told site.old) (S.told site.new))) }
-    ensures enough { IfOk result (λ wrote. IfWhole wrote (length (dump_sectors (P.to_come pieces.old) header.now (S.part_size site.old) (S.block_size site.old)) ≤ left)) }
-    ensures stopped { IfOk result (λ wrote. IfStopped wrote (Stops (IsDumpJournal (P.to_come pieces.old) header.now (S.part_size site.old) (S.block_size site.old)) left (S.told site.old) (S.told site.new))) }
-    ensures fault { OnErr result (Begins (IsDumpJournal (P.to_come pieces.old) header.now (S.part_size site.old) (S.block_size site.old)) (S.told site.old) (S.told site.new)) }
-    ensures size { S.part_size site.new ≡ S.part_size site.old }
-    ensures block { S.block_size site.new ≡ S.block_size site.old }
-    ensures count { S.faults site.old ≤ S.faults site.new }
-    ensures cause { OnErr result (Rose (S.faults site.old) (S.faults site.new)) }
+    requires room { need_of (S.seen site.old).block (length (P.to_come pieces.old)) ≤ (S.seen site.old).size }
+    ensures whole { IfOk result (λ wrote. IfWhole wrote (Adds (IsDumpJournal (P.to_come pieces.old) header.now (S.seen site.old).size (S.seen site.old).block) (S.seen site.old).told (S.seen site.new).told)) }
+    ensures enough { IfOk result (λ wrote. IfWhole wrote (length (dump_sectors (P.to_come pieces.old) header.now (S.seen site.old).size (S.seen site.old).block) ≤ left)) }
+    ensures stopped { IfOk result (λ wrote. IfStopped wrote (Stops (IsDumpJournal (P.to_come pieces.old) header.now (S.seen site.old).size (S.seen site.old).block) left (S.seen site.old).told (S.seen site.new).told)) }
+    ensures fault { OnErr result (Begins (IsDumpJournal (P.to_come pieces.old) header.now (S.seen site.old).size (S.seen site.old).block) (S.seen site.old).told (S.seen site.new).told) }
+    ensures frame { Frame (S.seen site.old) (S.seen site.new) }
+    ensures cause { OnErr result (Rose (S.seen site.old).faults (S.seen site.new).faults) }
 {
     let block = u64::from(site.block());
     let trailing = site.size() - block;
@@ -80,31 +77,32 @@ pub fn write_dump<S: Site, P: Pieces>(
     header: &Header,
     stop: Option<u64>,
 ) -> Result<Wrote, PartFault>
-    requires partition { IsTrue (is_good (S.part_size site.old) (S.block_size site.old)) }
+    requires partition { IsTrue (is_good (S.seen site.old).size (S.seen site.old).block) }
     requires dumplength { header.now.dumplength ≡ length (P.to_come pieces.old) }
     requires dumpextent { header.now.dumpextent ≡ length (P.to_come pieces.old) }
     requires pages { length (P.to_come pieces.old) % 4096 ≡ 0 }
     requires small { length (P.to_come pieces.old) ≤ 2 ^ 62 }
     requires labels { FitsFields header.now }
-    requires blocksize { header.now.blocksize ≡ S.block_size site.old }
-    ensures room { S.part_size site.old < need_of (S.block_size site.old) (length (P.to_come pieces.old)) → IsErrOf result (PartFault.NoRoom (need_of (S.block_size site.old) (length (P.to_come pieces.old))) (S.part_size site.old)) }
-    ensures no_room { OnNoRoom result (λ need have. S.part_size site.old < need_of (S.block_size site.old) (length (P.to_come pieces.old))) }
-    ensures untouched { OnNoRoom result (λ need have. site.new ≡ site.old) }
-    ensures untaken { OnNoRoom result (λ need have. pieces.new ≡ pieces.old) }
-    ensures whole { OnWhole result (Adds (IsDumpJournal (P.to_come pieces.old) header.now (S.part_size site.old) (S.block_size site.old)) (S.told site.old) (S.told site.new)) }
-    ensures enough { OnWhole result (IfSome stop (λ n. length (dump_sectors (P.to_come pieces.old) header.now (S.part_size site.old) (S.block_size site.old)) ≤ n)) }
-    ensures stopped { OnStopped result (IsSomeAnd stop (λ n. Adds (IsStoppedDump (P.to_come pieces.old) header.now (S.part_size site.old) (S.block_size site.old) n) (S.told site.old) (S.told site.new))) }
-    ensures short { OnStopped result (IsSomeAnd stop (λ n. n < length (dump_sectors (P.to_come pieces.old) header.now (S.part_size site.old) (S.block_size site.old)))) }
-    ensures fault { OnSiteFault result (Adds (IsStartedDump (P.to_come pieces.old) header.now (S.part_size site.old) (S.block_size site.old)) (S.told site.old) (S.told site.new)) }
-    ensures size { S.part_size site.new ≡ S.part_size site.old }
-    ensures block { S.block_size site.new ≡ S.block_size site.old }
-    ensures count { S.faults site.old ≤ S.faults site.new }
-    ensures cause { OnSiteFault result (Rose (S.faults site.old) (S.faults site.new)) }
+    requires blocksize { header.now.blocksize ≡ (S.seen site.old).block }
+    ensures room { (S.seen site.old).size < need_of (S.seen site.old).block (length (P.to_come pieces.old)) → IsErrOf result (PartFault.NoRoom (record { need = need_of (S.seen site.old).block (length (P.to_come pieces.old)); have = (S.seen site.old).size })) }
+    ensures no_room { OnNoRoom result ((S.seen site.old).size < need_of (S.seen site.old).block (length (P.to_come pieces.old))) }
+    ensures untouched { OnNoRoom result (site.new ≡ site.old) }
+    ensures untaken { OnNoRoom result (pieces.new ≡ pieces.old) }
+    ensures whole { OnWhole result (Adds (IsDumpJournal (P.to_come pieces.old) header.now (S.seen site.old).size (S.seen site.old).block) (S.seen site.old).told (S.seen site.new).told) }
+    ensures enough { OnWhole result (IfSome stop (λ n. length (dump_sectors (P.to_come pieces.old) header.now (S.seen site.old).size (S.seen site.old).block) ≤ n)) }
+    ensures stopped { OnStopped result (IsSomeAnd stop (λ n. Adds (IsStoppedDump (P.to_come pieces.old) header.now (S.seen site.old).size (S.seen site.old).block n) (S.seen site.old).told (S.seen site.new).told)) }
+    ensures short { OnStopped result (IsSomeAnd stop (λ n. n < length (dump_sectors (P.to_come pieces.old) header.now (S.seen site.old).size (S.seen site.old).block))) }
+    ensures fault { IsErrOf result PartFault.SiteFault → Adds (IsBegunDump (P.to_come pieces.old) header.now (S.seen site.old).size (S.seen site.old).block) (S.seen site.old).told (S.seen site.new).told }
+    ensures frame { Frame (S.seen site.old) (S.seen site.new) }
+    ensures cause { IsErrOf result PartFault.SiteFault → Rose (S.seen site.old).faults (S.seen site.new).faults }
 {
     let size = site.size();
-    let need = UNTOUCHED + header.dumpextent + 2 * u64::from(site.block());
-    if need > size {
-        return Err(PartFault::NoRoom { need, have: size });
+    let need = need_of(site.block(), header.dumpextent);
+    if need > u128::from(size) {
+        return Err(PartFault::NoRoom(NoRoom {
+            need: need as u64,
+            have: size,
+        }));
     }
     let wrote = write_parts(site, pieces, header, stop.unwrap_or(u64::MAX))?;
     Ok(wrote)

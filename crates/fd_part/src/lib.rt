@@ -12,5 +12,5 @@ mod tests;
 mod writes;
 
 pub use dump::write_dump;
-pub use outcome::{PartFault, Wrote};
-pub use partition::good_partition;
+pub use outcome::{NoRoom, PartFault, Wrote};
+pub use partition::{BadPartition, good_partition, need_of};

@@ -3,6 +3,7 @@
 ghost use Rattle.std.specs.Prelude.{◌≡◌, ◌+◌, ◌/◌, ◌%◌, ◌<◌, ◌≤◌, ◌^◌, [], ◌∷◌, length, IfNone, IfOk, IfSome, OnErr};
 ghost use Rattle.fd_site.specs.Contents.{Adds, IsSectors, whole_part, with_entries};
 ghost use Rattle.fd_site.specs.Fault.{Rose};
+ghost use Rattle.fd_site.specs.Seen.{Frame};
 ghost use Rattle.fd_part.specs.Writes.{Begins, IsWriteOf, IsWritesOf, Stops};
 
 use fd_site::{Failed, Pieces, Site};
@@ -15,15 +16,13 @@ pub(crate) fn write_bytes<S: Site>(
     bytes: &[u8],
     left: u64,
 ) -> Result<Option<u64>, Failed>
-    requires { IsSectors at (length bytes.now) (S.part_size site.old) }
-    ensures whole { IfOk result (λ rest. IfSome rest (λ n. S.told site.new ≡ with_entries (S.told site.old) (whole_part at bytes.now ∷ []))) }
+    requires { IsSectors at (length bytes.now) (S.seen site.old).size }
+    ensures whole { IfOk result (λ rest. IfSome rest (λ n. (S.seen site.new).told ≡ with_entries (S.seen site.old).told (whole_part at bytes.now ∷ []))) }
     ensures rest { IfOk result (λ rest. IfSome rest (λ n. n + length bytes.now / 512 ≡ left)) }
-    ensures stopped { IfOk result (λ rest. IfNone rest (Stops (IsWriteOf at bytes.now) left (S.told site.old) (S.told site.new))) }
-    ensures fault { OnErr result (Begins (IsWriteOf at bytes.now) (S.told site.old) (S.told site.new)) }
-    ensures size { S.part_size site.new ≡ S.part_size site.old }
-    ensures block { S.block_size site.new ≡ S.block_size site.old }
-    ensures count { S.faults site.old ≤ S.faults site.new }
-    ensures cause { OnErr result (Rose (S.faults site.old) (S.faults site.new)) }
+    ensures stopped { IfOk result (λ rest. IfNone rest (Stops (IsWriteOf at bytes.now) left (S.seen site.old).told (S.seen site.new).told)) }
+    ensures fault { OnErr result (Begins (IsWriteOf at bytes.now) (S.seen site.old).told (S.seen site.new).told) }
+    ensures frame { Frame (S.seen site.old) (S.seen site.new) }
+    ensures cause { OnErr result (Rose (S.seen site.old).faults (S.seen site.new).faults) }
 {
     let sectors = bytes.len() as u64 / 512;
     if sectors <= left {
@@ -48,16 +47,14 @@ pub(crate) fn write_pieces<S: Site, P: Pieces>(
 ) -> Result<Option<u64>, Failed>
     requires start { from % 512 ≡ 0 }
     requires sectors { length (P.to_come pieces.old) % 512 ≡ 0 }
-    requires inside { from + length (P.to_come pieces.old) ≤ S.part_size site.old }
-    requires size { S.part_size site.old < 2 ^ 64 }
-    ensures whole { IfOk result (λ rest. IfSome rest (λ n. Adds (IsWritesOf from (P.to_come pieces.old)) (S.told site.old) (S.told site.new))) }
+    requires inside { from + length (P.to_come pieces.old) ≤ (S.seen site.old).size }
+    requires size { (S.seen site.old).size < 2 ^ 64 }
+    ensures whole { IfOk result (λ rest. IfSome rest (λ n. Adds (IsWritesOf from (P.to_come pieces.old)) (S.seen site.old).told (S.seen site.new).told)) }
     ensures rest { IfOk result (λ rest. IfSome rest (λ n. n + length (P.to_come pieces.old) / 512 ≡ left)) }
-    ensures stopped { IfOk result (λ rest. IfNone rest (Stops (IsWritesOf from (P.to_come pieces.old)) left (S.told site.old) (S.told site.new))) }
-    ensures fault { OnErr result (Begins (IsWritesOf from (P.to_come pieces.old)) (S.told site.old) (S.told site.new)) }
-    ensures size { S.part_size site.new ≡ S.part_size site.old }
-    ensures block { S.block_size site.new ≡ S.block_size site.old }
-    ensures count { S.faults site.old ≤ S.faults site.new }
-    ensures cause { OnErr result (Rose (S.faults site.old) (S.faults site.new)) }
+    ensures stopped { IfOk result (λ rest. IfNone rest (Stops (IsWritesOf from (P.to_come pieces.old)) left (S.seen site.old).told (S.seen site.new).told)) }
+    ensures fault { OnErr result (Begins (IsWritesOf from (P.to_come pieces.old)) (S.seen site.old).told (S.seen site.new).told) }
+    ensures frame { Frame (S.seen site.old) (S.seen site.new) }
+    ensures cause { OnErr result (Rose (S.seen site.old).faults (S.seen site.new).faults) }
 {
     let mut at = from;
     let mut rest = left;

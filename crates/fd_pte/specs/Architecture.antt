@@ -2,6 +2,7 @@
 use Rattle.std.specs.Prelude.{ℕ}
 use Rattle.fd_bytes.specs.declared.arch.Arch.{Arch}
 use Rattle.fd_bytes.specs.declared.arch.Arch.TheVariants.{Amd64, Arm64, Riscv}
+use Rattle.fd_bytes.specs.Profile.{profile_of}
 use Rattle.fd_pte.specs.declared.entry.Kind.{Kind}
 use Rattle.fd_pte.specs.Amd64.{amd64_kind, amd64_expansion}
 use Rattle.fd_pte.specs.Arm64.{arm64_kind, arm64_expansion}
@@ -15,18 +16,10 @@ kind_of Riscv = riscv_kind
 
 -- the height of the entries of a minidump's page directory
 abbrev pub directory_height_of : Arch → ℕ
-directory_height_of Amd64 = 1
-directory_height_of Arm64 = 0
-directory_height_of Riscv = 0
+directory_height_of arch = (profile_of arch).directory_height
 
 -- the entry of directory height for one unit of a larger leaf: its bits, its height, the index of the unit
 abbrev pub expansion_of : Arch → ℕ → ℕ → ℕ → ℕ
 expansion_of Amd64 = amd64_expansion
 expansion_of Arm64 = arm64_expansion
 expansion_of Riscv = riscv_expansion
-
--- how many levels of tables there are
-abbrev pub levels_of : Arch → ℕ
-levels_of Amd64 = 4
-levels_of Arm64 = 4
-levels_of Riscv = 3

@@ -27,9 +27,5 @@ pub fn directory_height(arch: Arch) -> u32
     ensures value { result ≡ directory_height_of arch }
     ensures low { result ≤ 1 }
 {
-    match arch {
-        Arch::Amd64 => Amd64::DIRECTORY_HEIGHT,
-        Arch::Arm64 => Arm64::DIRECTORY_HEIGHT,
-        Arch::Riscv => Riscv::DIRECTORY_HEIGHT,
-    }
+    arch.profile().directory_height
 }

@@ -6,7 +6,7 @@ use Rattle.std.proofs.lemmas.List.Sums.{sum_by-cons}
 use Rattle.fd_mini.specs.Places.{places_of}
 use Rattle.fd_mini.specs.Read.{header_in}
 use Rattle.fd_mini.specs.declared.header.MiniHeader.{MiniHeader}
-use Rattle.fd_mini.specs.declared.read.MiniFault.{MiniFault}
+use Rattle.fd_mini.specs.declared.mini_fault.MiniFault.{MiniFault}
 use Rattle.fd_bitmap.specs.Bits.{set_count}
 use Rattle.fd_bitmap.specs.Pages.{bit_of}
 use Rattle.fd_vmcore.specs.Ranges.{pages_in}

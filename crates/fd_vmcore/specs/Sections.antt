@@ -1,10 +1,10 @@
 -- What opening a vmcore answers: its header, the pages that have a bit, and the bits, or the first reason to refuse it.
-use Rattle.std.specs.Prelude.{◌≡◌, ℕ, ◌+◌, ◌*◌, Bool, false, ◌==◌, nat_lt, if◌then◌else◌, List, length, take, slice_get, slice_range, unwrap_or, Option, Some, None, Result, Ok, Err}
+use Rattle.std.specs.Prelude.{◌≡◌, ℕ, ◌+◌, ◌*◌, Bool, false, ◌==◌, ◌≤◌, nat_lt, if◌then◌else◌, List, length, take, slice_get, slice_range, unwrap_or, Option, Some, None, IsSomeAnd, Result, Ok, Err, IsOkAnd}
 use Rattle.std.specs.Option.{option_and_then}
 use Rattle.fd_mini.specs.Places.{places_of}
 use Rattle.fd_mini.specs.Read.{header_in}
 use Rattle.fd_mini.specs.declared.header.MiniHeader.{MiniHeader}
-use Rattle.fd_mini.specs.declared.read.MiniFault.{MiniFault}
+use Rattle.fd_mini.specs.declared.mini_fault.MiniFault.{MiniFault}
 use Rattle.fd_bitmap.specs.Bits.{bits_of, set_count}
 use Rattle.fd_bitmap.specs.Pages.{first_bad, bit_of}
 use Rattle.fd_vmcore.specs.Ranges.{ranges_of, pages_in}
@@ -67,8 +67,17 @@ offset_of_bit s bit = if has_bit s.bits bit then Some ((places_of s.header).page
 abbrev pub page_offset : Sections → ℕ → Option ℕ
 page_offset s pa = option_and_then (offset_of_bit s) (bit_of s.pages pa)
 
--- What opening may answer, by what the file answers. A fault of the site and want of memory say nothing of the file.
-abbrev pub IsOpening : Result Sections OpenFault → Result Sections OpenFault → Type 0
-IsOpening answer (Err SiteFault) = Unit {0}
-IsOpening answer (Err NoMemory) = Unit {0}
-IsOpening answer result = answer ≡ result
+-- What a call may answer, by what it answers of the file: a fault of the site says nothing of the file, and want of memory
+-- comes only where memory is taken.
+abbrev pub IsAnswer : Result Sections OpenFault → (memory_is_taken : Type 0) → Result Sections OpenFault → Type 0
+IsAnswer answer memory_is_taken (Err SiteFault) = Unit {0}
+IsAnswer answer memory_is_taken (Err NoMemory) = memory_is_taken
+IsAnswer answer memory_is_taken result = answer ≡ result
+
+-- a file with a header page that is taken, and with all that stands before its dumped pages
+abbrev pub HasSections : List ℕ → Type 0
+HasSections f = IsOkAnd (header_in (take 4096 f)) (λ h. (places_of h).pages ≤ length f)
+
+-- what opening a file may answer: memory is taken only for a file that has its sections
+abbrev pub IsOpening : Option (List ℕ) → Result Sections OpenFault → Type 0
+IsOpening file result = IsAnswer (opened_file file) (IsSomeAnd file HasSections) result

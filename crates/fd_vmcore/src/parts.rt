@@ -1,14 +1,15 @@
 //! The sections that opening reads.
-ghost use Rattle.std.specs.Prelude.{◌≡◌, ℕ, ◌+◌, ◌*◌, ◌<◌, ◌≤◌, ◌^◌, List, length, Some, slice_range, IfOk, IsTrue};
+ghost use Rattle.std.specs.Prelude.{◌≡◌, ℕ, ◌+◌, ◌*◌, ◌<◌, ◌≤◌, ◌^◌, List, length, Some, slice_range, IfOk, IsErrOf, IsTrue};
 ghost use Rattle.fd_site.specs.Contents.{Told, file_of};
 ghost use Rattle.fd_site.specs.Fault.{Rose};
 ghost use Rattle.fd_site.specs.Name.{is_good_name};
+ghost use Rattle.fd_site.specs.Seen.{Untouched};
 ghost use Rattle.fd_mini.specs.Places.{places_of};
-ghost use Rattle.fd_vmcore.specs.Cause.{OnSiteFault};
 ghost use Rattle.fd_vmcore.specs.Kept.{AreBelow};
 ghost use Rattle.fd_vmcore.specs.Parts.{AreRanges, EndBelow, HasRoom, IsReadAs};
 ghost use Rattle.fd_vmcore.specs.Ranges.{pair_at, pairs_in};
 ghost use Rattle.fd_vmcore.specs.Sections.{bits_in};
+ghost use Rattle.fd_vmcore.specs.declared.open.OpenFault.TheVariants.{SiteFault};
 
 use crate::open::OpenFault;
 use fd_bitmap::{Avail, AvailFault, Bitmap};
@@ -26,14 +27,11 @@ fn read_section<S: Site>(
     len: u32,
 ) -> Result<Vec<u8>, OpenFault>
     requires name { IsTrue (is_good_name name.now) }
-    requires inside { Told (S.told site.old) (λ c. HasRoom (file_of c name.now) (at + len)) }
-    ensures bytes { Told (S.told site.old) (λ c. (f : List ℕ) → file_of c name.now ≡ Some f → IsReadAs (λ bytes. bytes.items ≡ slice_range f at (at + len)) result) }
+    requires inside { Told (S.seen site.old).told (λ c. HasRoom (file_of c name.now) (at + len)) }
+    ensures bytes { Told (S.seen site.old).told (λ c. (f : List ℕ) → file_of c name.now ≡ Some f → IsReadAs (λ bytes. bytes.items ≡ slice_range f at (at + len)) result) }
     ensures len { IfOk result (λ bytes. length bytes.items ≡ len) }
-    ensures same { S.told site.new ≡ S.told site.old }
-    ensures size { S.part_size site.new ≡ S.part_size site.old }
-    ensures block { S.block_size site.new ≡ S.block_size site.old }
-    ensures count { S.faults site.old ≤ S.faults site.new }
-    ensures cause { OnSiteFault result (Rose (S.faults site.old) (S.faults site.new)) }
+    ensures untouched { Untouched (S.seen site.old) (S.seen site.new) }
+    ensures cause { IsErrOf result SiteFault → Rose (S.seen site.old).faults (S.seen site.new).faults }
 {
     let mut bytes = vec![in alloc; 0u8; len as usize]?;
     site.read_file(name, at, bytes.as_mut_slice())?;
@@ -48,14 +46,11 @@ pub(crate) fn read_bitmap<S: Site>(
     header: &MiniHeader,
 ) -> Result<Bitmap, OpenFault>
     requires name { IsTrue (is_good_name name.now) }
-    requires inside { Told (S.told site.old) (λ c. HasRoom (file_of c name.now) (places_of header.now).pages) }
-    ensures bits { Told (S.told site.old) (λ c. (f : List ℕ) → file_of c name.now ≡ Some f → IsReadAs (λ bits. bits ≡ bits_in f header.now) result) }
+    requires inside { Told (S.seen site.old).told (λ c. HasRoom (file_of c name.now) (places_of header.now).pages) }
+    ensures bits { Told (S.seen site.old).told (λ c. (f : List ℕ) → file_of c name.now ≡ Some f → IsReadAs (λ bits. bits ≡ bits_in f header.now) result) }
     ensures len { IfOk result (λ bits. length bits ≡ 8 * header.now.bitmapsize) }
-    ensures same { S.told site.new ≡ S.told site.old }
-    ensures size { S.part_size site.new ≡ S.part_size site.old }
-    ensures block { S.block_size site.new ≡ S.block_size site.old }
-    ensures count { S.faults site.old ≤ S.faults site.new }
-    ensures cause { OnSiteFault result (Rose (S.faults site.old) (S.faults site.new)) }
+    ensures untouched { Untouched (S.seen site.old) (S.seen site.new) }
+    ensures cause { IsErrOf result SiteFault → Rose (S.seen site.old).faults (S.seen site.new).faults }
 {
     let bytes = read_section(
         alloc,
@@ -75,15 +70,12 @@ pub(crate) fn read_avail<S: Site>(
     header: &MiniHeader,
 ) -> Result<Avail, OpenFault>
     requires name { IsTrue (is_good_name name.now) }
-    requires inside { Told (S.told site.old) (λ c. HasRoom (file_of c name.now) (places_of header.now).pages) }
+    requires inside { Told (S.seen site.old).told (λ c. HasRoom (file_of c name.now) (places_of header.now).pages) }
     requires limit { header.now.bitmapsize ≤ 2 ^ 26 }
-    ensures ranges { Told (S.told site.old) (λ c. (f : List ℕ) → file_of c name.now ≡ Some f → AreRanges f header.now result) }
+    ensures ranges { Told (S.seen site.old).told (λ c. (f : List ℕ) → file_of c name.now ≡ Some f → AreRanges f header.now result) }
     ensures below { IfOk result (λ pages. AreBelow pages) }
-    ensures same { S.told site.new ≡ S.told site.old }
-    ensures size { S.part_size site.new ≡ S.part_size site.old }
-    ensures block { S.block_size site.new ≡ S.block_size site.old }
-    ensures count { S.faults site.old ≤ S.faults site.new }
-    ensures cause { OnSiteFault result (Rose (S.faults site.old) (S.faults site.new)) }
+    ensures untouched { Untouched (S.seen site.old) (S.seen site.new) }
+    ensures cause { IsErrOf result SiteFault → Rose (S.seen site.old).faults (S.seen site.new).faults }
 {
     if header.dumpavailsize == 0 {
         return Ok(Avail::identity(8 * u64::from(header.bitmapsize)));

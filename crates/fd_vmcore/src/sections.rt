@@ -1,12 +1,13 @@
 //! An open vmcore.
-ghost use Rattle.std.specs.Prelude.{◌≡◌, ℕ, ◌≤◌, ◌<◌, ◌^◌, IfSome, IsTrue, List, Some};
+ghost use Rattle.std.specs.Prelude.{◌≡◌, ℕ, ◌≤◌, ◌<◌, ◌^◌, IfSome, IsErrOf, IsTrue, List, Ok, Some, length};
 ghost use Rattle.fd_site.specs.Contents.{Told, file_of};
 ghost use Rattle.fd_site.specs.Fault.{Rose};
 ghost use Rattle.fd_site.specs.Name.{is_good_name};
+ghost use Rattle.fd_site.specs.Seen.{Untouched};
 ghost use Rattle.fd_mini.specs.Places.{places_of};
-ghost use Rattle.fd_vmcore.specs.Cause.{OnSiteFault};
 ghost use Rattle.fd_vmcore.specs.Parts.{HasLength};
-ghost use Rattle.fd_vmcore.specs.Sections.{IsOpening, bad_range, by_ranges, long_enough, offset_of_bit, opened_file, page_offset, pages_end};
+ghost use Rattle.fd_vmcore.specs.Sections.{IsAnswer, IsOpening, by_header, offset_of_bit, page_offset, pages_end};
+ghost use Rattle.fd_vmcore.specs.declared.open.OpenFault.TheVariants.{SiteFault};
 
 use crate::open::OpenFault;
 use crate::parts::{read_avail, read_bitmap};
@@ -41,12 +42,9 @@ impl Core {
     /// tells is accepted. The dumped pages aren't read.
     pub fn open<S: Site>(alloc: Global, site: &mut S, name: &str) -> Result<Core, OpenFault>
         requires { IsTrue (is_good_name name.now) }
-        ensures opening { Told (S.told site.old) (λ c. IsOpening (opened_file (file_of c name.now)) result) }
-        ensures same { S.told site.new ≡ S.told site.old }
-        ensures size { S.part_size site.new ≡ S.part_size site.old }
-        ensures block { S.block_size site.new ≡ S.block_size site.old }
-        ensures count { S.faults site.old ≤ S.faults site.new }
-        ensures cause { OnSiteFault result (Rose (S.faults site.old) (S.faults site.new)) }
+        ensures opening { Told (S.seen site.old).told (λ c. IsOpening (file_of c name.now) result) }
+        ensures untouched { Untouched (S.seen site.old) (S.seen site.new) }
+        ensures cause { IsErrOf result SiteFault → Rose (S.seen site.old).faults (S.seen site.new).faults }
     {
         match site.file_len(name)? {
             Some(len) => open_file(alloc, site, name, len),
@@ -111,13 +109,10 @@ impl Core {
 // Opens a file of this length.
 fn open_file<S: Site>(alloc: Global, site: &mut S, name: &str, len: u64) -> Result<Core, OpenFault>
     requires name { IsTrue (is_good_name name.now) }
-    requires len { Told (S.told site.old) (λ c. HasLength (file_of c name.now) len) }
-    ensures opening { Told (S.told site.old) (λ c. IsOpening (opened_file (file_of c name.now)) result) }
-    ensures same { S.told site.new ≡ S.told site.old }
-    ensures size { S.part_size site.new ≡ S.part_size site.old }
-    ensures block { S.block_size site.new ≡ S.block_size site.old }
-    ensures count { S.faults site.old ≤ S.faults site.new }
-    ensures cause { OnSiteFault result (Rose (S.faults site.old) (S.faults site.new)) }
+    requires len { Told (S.seen site.old).told (λ c. HasLength (file_of c name.now) len) }
+    ensures opening { Told (S.seen site.old).told (λ c. IsOpening (file_of c name.now) result) }
+    ensures untouched { Untouched (S.seen site.old) (S.seen site.new) }
+    ensures cause { IsErrOf result SiteFault → Rose (S.seen site.old).faults (S.seen site.new).faults }
 {
     if len < 4096 {
         return Err(OpenFault::Short(4096, len));
@@ -139,14 +134,11 @@ fn open_sections<S: Site>(
     header: MiniHeader,
 ) -> Result<Core, OpenFault>
     requires name { IsTrue (is_good_name name.now) }
-    requires len { Told (S.told site.old) (λ c. HasLength (file_of c name.now) len) }
+    requires len { Told (S.seen site.old).told (λ c. HasLength (file_of c name.now) len) }
     requires limit { header.bitmapsize ≤ 2 ^ 26 }
-    ensures opening { Told (S.told site.old) (λ c. (f : List ℕ) → file_of c name.now ≡ Some f → IsOpening (long_enough f (places_of header).pages (by_ranges f header (bad_range f header))) result) }
-    ensures same { S.told site.new ≡ S.told site.old }
-    ensures size { S.part_size site.new ≡ S.part_size site.old }
-    ensures block { S.block_size site.new ≡ S.block_size site.old }
-    ensures count { S.faults site.old ≤ S.faults site.new }
-    ensures cause { OnSiteFault result (Rose (S.faults site.old) (S.faults site.new)) }
+    ensures opening { Told (S.seen site.old).told (λ c. (f : List ℕ) → file_of c name.now ≡ Some f → IsAnswer (by_header f (Ok header)) ((places_of header).pages ≤ length f) result) }
+    ensures untouched { Untouched (S.seen site.old) (S.seen site.new) }
+    ensures cause { IsErrOf result SiteFault → Rose (S.seen site.old).faults (S.seen site.new).faults }
 {
     let pages = places_of(&header).pages;
     if len < pages {

@@ -1,5 +1,5 @@
 -- A range is what its first entry gives, and then what the addresses behind that entry give.
-use Rattle.std.proofs.Common.{◌≡◌, ◌∙◌, ℕ, zero, suc, ◌+◌, ◌-◌, ◌*◌, ◌/◌, ◌%◌, ◌^◌, ◌<◌, ◌≤◌, ◌==◌, ◌⊎◌, max, min, Option, Some, None, [], ◌∷◌, ◌++◌, Bool, true, false, refl, ap, sym, subst, arith, inl, inr, if◌then◌else◌}
+use Rattle.std.proofs.Common.{◌≡◌, ◌∙◌, ℕ, zero, suc, ◌+◌, ◌-◌, ◌*◌, ◌/◌, ◌%◌, ◌^◌, ◌<◌, ◌≤◌, ◌==◌, ◌⊎◌, max, min, Option, Some, None, List, [], ◌∷◌, ◌++◌, Bool, true, false, refl, ap, sym, subst, arith, inl, inr, if◌then◌else◌}
 use Rattle.std.specs.List.{filter_map, range_with_len}
 use Rattle.std.specs.Option.{option_and_then, option_to_list}
 use Rattle.std.proofs.lemmas.Bool.{cases_lt, cases_eq, ne_eqb, eq-eqb}
@@ -175,25 +175,22 @@ leaf_part-first at left m =
     (ap (λ i. make i (min (first_under m.height at + size) (at + left) - at)) inside ∙ ap (λ n. make (at % size) n) bytes)
 
 -- a range begins with the leaf that was found
-pub leaves_in-leaf : (t : PageTables) (at left height table bits address size bytes : ℕ) (entry : Option ℕ)
-    → IsReached t 0 at height table entry → 0 < left → size ≡ bytes_under height → bytes ≡ min left (size - at % size)
+pub leaves_in-leaf : (t : PageTables) (at left height table bits address bytes : ℕ) (entry : Option ℕ)
+    → IsReached t 0 at height table entry → 0 < left → bytes ≡ part_under height at left
     → leaf_of_entry t.kind_of height entry ≡ Some (record { height = height; bits = bits; address = address })
-    → leaves_in t at left ≡ part_at at size bytes bits address ∷ leaves_in t (at + bytes) (left - bytes)
-leaves_in-leaf t at left height table bits address size bytes entry reached some is_size is_bytes found =
-    let is_part : bytes ≡ part_under height at left = is_bytes ∙ ap (λ s. min left (s - at % s)) is_size in
+    → leaves_in t at left ≡ part_at at (bytes_under height) bytes bits address ∷ leaves_in t (at + bytes) (left - bytes)
+leaves_in-leaf t at left height table bits address bytes entry reached some is_part found =
     leaves_in-parts t at left height table entry reached some
     ∙ ap (λ leaf. option_to_list leaf ++ leaves_in t (at + part_under height at left) (left - part_under height at left))
     (ap (λ leaf. option_and_then (leaf_part at (at + left) at) leaf) found
     ∙ leaf_part-first at left (record { height = height; bits = bits; address = address }))
     ∙ ap (λ n. part_at at (bytes_under height) n bits address ∷ leaves_in t (at + n) (left - n)) (sym is_part)
-    ∙ ap (λ s. part_at at s bytes bits address ∷ leaves_in t (at + bytes) (left - bytes)) (sym is_size)
 
 -- or with nothing, where none was
-pub leaves_in-no_leaf : (t : PageTables) (at left height table size bytes : ℕ) (entry : Option ℕ)
-    → IsReached t 0 at height table entry → 0 < left → size ≡ bytes_under height → bytes ≡ min left (size - at % size)
+pub leaves_in-no_leaf : (t : PageTables) (at left height table bytes : ℕ) (entry : Option ℕ)
+    → IsReached t 0 at height table entry → 0 < left → bytes ≡ part_under height at left
     → leaf_of_entry t.kind_of height entry ≡ None → leaves_in t at left ≡ leaves_in t (at + bytes) (left - bytes)
-leaves_in-no_leaf t at left height table size bytes entry reached some is_size is_bytes found =
-    let is_part : bytes ≡ part_under height at left = is_bytes ∙ ap (λ s. min left (s - at % s)) is_size in
+leaves_in-no_leaf t at left height table bytes entry reached some is_part found =
     leaves_in-parts t at left height table entry reached some
     ∙ ap (λ leaf. option_to_list (option_and_then (leaf_part at (at + left) at) leaf)
     ++ leaves_in t (at + part_under height at left) (left - part_under height at left)) found
@@ -205,9 +202,12 @@ unfolding leaves_in
 leaves_in-none t at = refl
 
 -- an address at which a range goes on does not wrap, and where nothing is left it does not matter
-pub leaves_in-wrapped : (t : PageTables) (at left : ℕ) → at + left ≤ 2 ^ 64 → leaves_in t at left ≡ leaves_in t (at % 2 ^ 64) left
-leaves_in-wrapped t at zero within = leaves_in-none t at ∙ sym (leaves_in-none t (at % 2 ^ 64))
-leaves_in-wrapped t at (suc left) within = ap (λ va. leaves_in t va (suc left)) (let same : at ≡ at % 2 ^ 64 = omega arith in same)
+pub goes_on : {A : Type 0} (list_in : ℕ → ℕ → List A) → ((at : ℕ) → list_in at 0 ≡ []) → (at left next rest : ℕ)
+    → at + left ≤ 2 ^ 64 → next ≡ at % 2 ^ 64 → rest ≡ left → list_in at left ≡ list_in next rest
+goes_on list_in none at zero next rest within is_next is_rest =
+    none at ∙ sym (none next) ∙ ap (λ n. list_in next n) (sym is_rest)
+goes_on list_in none at (suc left) next rest within is_next is_rest =
+    ap (λ va. list_in va (suc left)) (let same : at ≡ next = omega arith in same) ∙ ap (λ n. list_in next n) (sym is_rest)
 
 -- ---- last-level tables
 
@@ -247,16 +247,15 @@ last_table-same t a b height table entry reached same =
     ]
 
 -- a range's tables, by the entry that a walk to height 1 for its first address has ended at
-pub last_tables_in-parts : (t : PageTables) (at left height table size bytes : ℕ) (entry found : Option ℕ)
-    → IsReached t 1 at height table entry → 0 < left → size ≡ bytes_under height → bytes ≡ min left (size - at % size)
+pub last_tables_in-parts : (t : PageTables) (at left height table bytes : ℕ) (entry found : Option ℕ)
+    → IsReached t 1 at height table entry → 0 < left → bytes ≡ part_under height at left
     → found ≡ table_of_kind (kind_of_entry t.kind_of height entry)
     → last_tables_in t at left ≡ option_to_list found ++ last_tables_in t (at + bytes) (left - bytes)
 unfolding last_tables_in
-last_tables_in-parts t at left height table size bytes entry found reached some is_size is_bytes is_found =
+last_tables_in-parts t at left height table bytes entry found reached some all_bytes is_found =
     let part = part_under height at left in
     let rest = left - part in
     let is_part = part_of height at left some in
-    let all_bytes : bytes ≡ part = is_bytes ∙ ap (λ s. min left (s - at % s)) is_size in
     let none : (n : ℕ) → at < n → n < at + part → table_part t at n ≡ None = λ n behind before.
     let same : at / bytes_under height ≡ n / bytes_under height =
     same_span at n (bytes_under height) (some_under height) (omega arith) (omega (arith, is_part.within)) in
@@ -281,7 +280,3 @@ last_tables_in-parts t at left height table size bytes entry found reached some 
 pub last_tables_in-none : (t : PageTables) (at : ℕ) → last_tables_in t at 0 ≡ []
 unfolding last_tables_in
 last_tables_in-none t at = refl
-
-pub last_tables_in-wrapped : (t : PageTables) (at left : ℕ) → at + left ≤ 2 ^ 64 → last_tables_in t at left ≡ last_tables_in t (at % 2 ^ 64) left
-last_tables_in-wrapped t at zero within = last_tables_in-none t at ∙ sym (last_tables_in-none t (at % 2 ^ 64))
-last_tables_in-wrapped t at (suc left) within = ap (λ va. last_tables_in t va (suc left)) (let same : at ≡ at % 2 ^ 64 = omega arith in same)

@@ -11,7 +11,7 @@ use Rattle.fd_pte.specs.declared.entry.Kind.{Kind}
 use Rattle.fd_pte.specs.declared.entry.Kind.TheVariants.{Absent, Table, Leaf}
 use Rattle.fd_pte.specs.Entry.{bytes_under}
 use Rattle.fd_walk.specs.PageTables.{PageTables, entry_at, index_at, kind_at, kind_of_entry}
-use Rattle.fd_walk.specs.Descent.{IsOnWay, IsReached}
+use Rattle.fd_walk.specs.Descent.{IsOnWay, IsInTable, IsReached}
 use Rattle.fd_walk.specs.Leaf.{leaf_of_entry, leaf_at}
 use Rattle.fd_walk.proofs.Addresses.{bytes_under-above}
 use Rattle.fd_walk.proofs.TablePath.{word_under, entry_at-top, entry_at-below}
@@ -96,6 +96,18 @@ way_beside t a b height table entry beside way same word = record {
   named = λ below. sym (kind_at-same t (height + 1) a b (height + 1) same (omega arith) below) ∙ way.named below;
   top = way.top;
 }
+
+-- a walk comes to the table that it came to for another address under the same entry above
+pub table_beside : (t : PageTables) (a b height table : ℕ) (entry : Option ℕ) → IsOnWay t a height table entry
+    → a / bytes_under (height + 1) ≡ b / bytes_under (height + 1) → IsInTable t b height table
+table_beside t a b height table entry way same =
+    way_beside t a b height table entry (entry_at t height b) way same (entry_beside t a b height table entry way same)
+
+-- and passes the entry that it finds there
+pub way_in_table : (t : PageTables) (va height table : ℕ) (entry : Option ℕ) → IsInTable t va height table
+    → entry ≡ t.word_at (table + 8 * index_at height va) → IsOnWay t va height table entry
+way_in_table t va height table entry in_table word =
+    way_beside t va va height table (entry_at t height va) entry in_table refl word
 
 -- the leaf of every address under the entry that a walk to the pages ended at
 pub leaf_at-same : (t : PageTables) (a b height table : ℕ) (entry : Option ℕ) → IsReached t 0 a height table entry

@@ -6,20 +6,19 @@ use Rattle.std.proofs.lemmas.Bool.{cases_lt, cases_Bool, eqb-true}
 use Rattle.fd_pte.specs.declared.entry.Kind.{Kind}
 use Rattle.fd_pte.specs.declared.entry.Kind.TheVariants.{Absent, Table, Leaf}
 use Rattle.fd_walk.specs.PageTables.{PageTables, entry_at, index_at, kind_at, kind_of_entry}
-use Rattle.fd_walk.specs.Descent.{IsTable, IsOnWay, IsReached}
+use Rattle.fd_walk.specs.Descent.{IsTable, IsOnWay, IsInTable, IsReached}
 use Rattle.fd_walk.specs.Step.{step_at, step_of}
 use Rattle.fd_walk.specs.Leaf.{MappedBy, leaf_of_kind, leaf_of_entry, leaf_of_height, leaf_below, leaf_at, table_of_kind, last_table}
 use Rattle.fd_walk.proofs.TablePath.{word_under, entry_at-top, entry_at-below}
 
 -- a walk begins in the topmost table
-pub way_from_top : (t : PageTables) (va height : ℕ) (entry : Option ℕ) → height + 1 ≡ t.levels
-    → entry ≡ t.word_at (t.root + 8 * index_at height va) → IsOnWay t va height t.root entry
-way_from_top t va height entry top word = record {
+pub topmost_table : (t : PageTables) (va height table : ℕ) → height + 1 ≡ t.levels → table ≡ t.root → IsInTable t va height table
+topmost_table t va height table top is_root = record {
   high = omega arith;
-  found = word ∙ sym (entry_at-top t height va top);
+  found = refl;
   above = λ h higher within. absurd (omega arith);
   named = λ within. absurd (omega arith);
-  top = λ highest. refl;
+  top = λ highest. is_root;
 }
 
 -- and goes on in the table that an entry names

@@ -16,6 +16,10 @@ pub record IsOnWay (t : PageTables) (va height table : ℕ) (entry : Option ℕ)
   pub named : height + 1 < t.levels → kind_at t (height + 1) va ≡ Table table
   pub top : height + 1 ≡ t.levels → table ≡ t.root
 
+-- the walk for an address comes to the table at this address, whose entries have this height
+abbrev pub IsInTable : PageTables → (va height table : ℕ) → Type 0
+IsInTable t va height table = IsOnWay t va height table (entry_at t height va)
+
 -- the walk ends at this entry: it is the lowest that is asked for, or names no table
 pub record IsReached (t : PageTables) (lowest va height table : ℕ) (entry : Option ℕ) : Type 0 where
   pub way : IsOnWay t va height table entry

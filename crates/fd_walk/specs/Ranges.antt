@@ -4,7 +4,9 @@ use Rattle.std.specs.List.{filter_map, range_with_len}
 use Rattle.std.specs.Option.{option_and_then}
 use Rattle.fd_pte.specs.Entry.{bytes_under}
 use Rattle.fd_walk.specs.declared.leaf.Leaf.{Leaf}
+use Rattle.fd_walk.specs.declared.rest.Rest.{Rest}
 use Rattle.fd_walk.specs.PageTables.{PageTables}
+use Rattle.fd_walk.specs.Descent.{IsInTable}
 use Rattle.fd_walk.specs.Leaf.{MappedBy, leaf_at, last_table}
 use Rattle.fd_walk.specs.Step.{first_under}
 
@@ -29,9 +31,12 @@ table_part t from va = if max from (first_under 1 va) == va then last_table t va
 unfoldable pub last_tables_in : PageTables → (from bytes : ℕ) → List ℕ
 last_tables_in t from bytes = filter_map (table_part t from) (range_with_len from bytes)
 
--- what is left of a range, with the tables that it is walked by
-pub record IsRest (levels root at left : ℕ) : Type 0 where
-  pub aligned : root % 4096 ≡ 0
-  pub some_levels : 2 ≤ levels
-  pub most_levels : levels ≤ 4
-  pub within : at + left ≤ 2 ^ 64
+-- what is left of a range: the walk for its first address comes to its table, at this height or above
+pub record IsRest (t : PageTables) (lowest : ℕ) (rest : Rest) : Type 0 where
+  pub aligned : t.root % 4096 ≡ 0
+  pub some_levels : 2 ≤ t.levels
+  pub most_levels : t.levels ≤ 4
+  pub within : rest.at + rest.left ≤ 2 ^ 64
+  pub table : IsInTable t rest.at rest.place.height rest.place.table
+  pub low : lowest ≤ rest.place.height
+  pub room : rest.place.table + 4096 ≤ 2 ^ 64

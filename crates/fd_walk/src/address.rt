@@ -5,7 +5,7 @@ ghost use Rattle.fd_walk.specs.PageTables.{index_at};
 
 /// The bytes of the addresses under one entry of a height.
 pub(crate) fn bytes_under(height: u32) -> u64
-    requires { height ≤ 3 }
+    requires { height ≤ 4 }
     ensures { result ≡ bytes_under height }
 {
     1 << (12 + 9 * height)

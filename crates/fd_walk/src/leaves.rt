@@ -3,10 +3,11 @@ ghost use Rattle.std.specs.Prelude.{◌≡◌, ◌≤◌, ◌<◌, ◌%◌, ◌+
 ghost use Rattle.std.specs.Iterator.{YieldsFirst, item_count};
 ghost use Rattle.std.specs.Option.{option_to_list};
 ghost use Rattle.fd_walk.specs.PageTables.{tables_of};
-ghost use Rattle.fd_walk.specs.Ranges.{leaves_in};
+ghost use Rattle.fd_walk.specs.Ranges.{leaves_in, IsRest};
 
 use crate::address::bytes_under;
 use crate::leaf::Leaf;
+use crate::rest::Rest;
 use crate::walker::Walker;
 use fd_image::Memory;
 use fd_pte::Entry;
@@ -18,8 +19,7 @@ use std::marker::{Model, PhantomData};
 pub struct Leaves<'a, M: Memory, E: Entry, const LEVELS: usize> {
     mem: &'a M,
     root: u64,
-    at: u64,
-    left: u64,
+    rest: Rest,
     entry: PhantomData<E>,
 }
 
@@ -31,9 +31,9 @@ impl<'a, M: Memory, E: Entry, const LEVELS: usize> Model for Leaves<'a, M, E, LE
 
     ghost Value = { List Leaf };
 
-    ghost view = { λ it. leaves_in (tables_of (M.word_at it.mem.now) E.kind_of LEVELS it.root) it.at it.left };
+    ghost view = { λ it. leaves_in (tables_of (M.word_at it.mem.now) E.kind_of LEVELS it.root) it.rest.at it.rest.left };
 
-    ghost invariant = { λ it. IsRest LEVELS it.root it.at it.left };
+    ghost invariant = { λ it. IsRest (tables_of (M.word_at it.mem.now) E.kind_of LEVELS it.root) 0 it.rest };
 }
 
 impl<'a, M: Memory, E: Entry, const LEVELS: usize> Iterator for Leaves<'a, M, E, LEVELS> {
@@ -44,25 +44,25 @@ impl<'a, M: Memory, E: Entry, const LEVELS: usize> Iterator for Leaves<'a, M, E,
     ghost remaining = { item_count (λ rest. rest) };
 
     fn next(&mut self) -> Option<Leaf> {
-        while self.left > 0 {
-            let part = Walker::<E, LEVELS>::leaf_part(self.mem, self.root, self.at, self.left);
-            self.at = part.at;
-            self.left = part.left;
+        let mut rest = self.rest;
+        while rest.left > 0 {
+            let part = Walker::<E, LEVELS>::leaf_part(self.mem, self.root, rest);
+            rest = part.rest;
             if let Some(leaf) = part.leaf {
+                self.rest = rest;
                 return Some(leaf);
             }
         }
+        self.rest = rest;
         None
     }
 }
 
-/// A range's first leaf, if the range begins with one, and the range behind the entry at its first
-/// address: `left` addresses from `at` on.
+/// A range's first leaf, if the range begins with one, and the range behind the entry at its first address.
 #[derive(Clone, Copy)]
 struct LeafPart {
     leaf: Option<Leaf>,
-    at: u64,
-    left: u64,
+    rest: Rest,
 }
 
 impl<E: Entry, const LEVELS: usize> Walker<E, LEVELS> {
@@ -82,45 +82,34 @@ impl<E: Entry, const LEVELS: usize> Walker<E, LEVELS> {
         Leaves {
             mem,
             root,
-            at: from,
-            left: bytes,
+            rest: Self::range(mem, root, from, bytes),
             entry: PhantomData,
         }
     }
 
     /// Takes from a range the addresses that share an entry with its first.
-    fn leaf_part<M: Memory>(mem: &M, root: u64, at: u64, left: u64) -> LeafPart
-        requires aligned { root % 4096 ≡ 0 }
-        requires some_levels { 2 ≤ LEVELS }
-        requires most_levels { LEVELS ≤ 4 }
-        requires some { 0 < left }
-        requires range { at + left ≤ 2 ^ 64 }
-        ensures shorter { result.left < left }
-        ensures within { result.at + result.left ≤ 2 ^ 64 }
+    fn leaf_part<M: Memory>(mem: &M, root: u64, rest: Rest) -> LeafPart
+        requires rest { IsRest (tables_of (M.word_at mem.now) E.kind_of LEVELS root) 0 rest }
+        requires some { 0 < rest.left }
+        ensures shorter { result.rest.left < rest.left }
+        ensures rest { IsRest (tables_of (M.word_at mem.now) E.kind_of LEVELS root) 0 result.rest }
         ensures leaves { let tables = tables_of (M.word_at mem.now) E.kind_of LEVELS root in
-            leaves_in tables at left ≡ option_to_list result.leaf ++ leaves_in tables result.at result.left }
+            leaves_in tables rest.at rest.left ≡ option_to_list result.leaf ++ leaves_in tables result.rest.at result.rest.left }
     {
-        let reached = Self::descend(mem, root, at, 0);
-        let size = bytes_under(reached.height);
-        let inside = at % size;
-        let bytes = left.min(size - inside);
-        // The sum wraps only where nothing is left.
-        let next = at.wrapping_add(bytes);
-        match Self::leaf(reached.entry, reached.height) {
+        let part = Self::part(mem, root, rest, 0);
+        match Self::leaf(part.entry, part.height) {
             Some(found) => LeafPart {
                 leaf: Some(Leaf {
-                    va: at,
-                    pa: found.address + inside,
-                    size: bytes,
+                    va: rest.at,
+                    pa: found.address + rest.at % bytes_under(part.height),
+                    size: part.bytes,
                     bits: found.bits,
                 }),
-                at: next,
-                left: left - bytes,
+                rest: part.rest,
             },
             None => LeafPart {
                 leaf: None,
-                at: next,
-                left: left - bytes,
+                rest: part.rest,
             },
         }
     }

@@ -8,6 +8,7 @@ mod address;
 mod directory;
 mod leaf;
 mod leaves;
+mod rest;
 mod step;
 mod tables;
 #[cfg(test)]

@@ -4,9 +4,9 @@ ghost use Rattle.std.specs.Iterator.{YieldsFirst, item_count};
 ghost use Rattle.std.specs.Option.{option_to_list};
 ghost use Rattle.fd_walk.specs.PageTables.{tables_of};
 ghost use Rattle.fd_walk.specs.Leaf.{table_of_kind};
-ghost use Rattle.fd_walk.specs.Ranges.{last_tables_in};
+ghost use Rattle.fd_walk.specs.Ranges.{last_tables_in, IsRest};
 
-use crate::address::bytes_under;
+use crate::rest::Rest;
 use crate::walker::Walker;
 use fd_image::Memory;
 use fd_pte::{Entry, Kind};
@@ -19,8 +19,7 @@ use std::marker::{Model, PhantomData};
 pub struct Tables<'a, M: Memory, E: Entry, const LEVELS: usize> {
     mem: &'a M,
     root: u64,
-    at: u64,
-    left: u64,
+    rest: Rest,
     entry: PhantomData<E>,
 }
 
@@ -31,9 +30,9 @@ impl<'a, M: Memory, E: Entry, const LEVELS: usize> Model for Tables<'a, M, E, LE
 
     ghost Value = { List ℕ };
 
-    ghost view = { λ it. last_tables_in (tables_of (M.word_at it.mem.now) E.kind_of LEVELS it.root) it.at it.left };
+    ghost view = { λ it. last_tables_in (tables_of (M.word_at it.mem.now) E.kind_of LEVELS it.root) it.rest.at it.rest.left };
 
-    ghost invariant = { λ it. IsRest LEVELS it.root it.at it.left };
+    ghost invariant = { λ it. IsRest (tables_of (M.word_at it.mem.now) E.kind_of LEVELS it.root) 1 it.rest };
 }
 
 impl<'a, M: Memory, E: Entry, const LEVELS: usize> Iterator for Tables<'a, M, E, LEVELS> {
@@ -44,25 +43,25 @@ impl<'a, M: Memory, E: Entry, const LEVELS: usize> Iterator for Tables<'a, M, E,
     ghost remaining = { item_count (λ rest. rest) };
 
     fn next(&mut self) -> Option<u64> {
-        while self.left > 0 {
-            let part = Walker::<E, LEVELS>::table_part(self.mem, self.root, self.at, self.left);
-            self.at = part.at;
-            self.left = part.left;
+        let mut rest = self.rest;
+        while rest.left > 0 {
+            let part = Walker::<E, LEVELS>::table_part(self.mem, self.root, rest);
+            rest = part.rest;
             if let Some(table) = part.table {
+                self.rest = rest;
                 return Some(table);
             }
         }
+        self.rest = rest;
         None
     }
 }
 
-/// A range's first table, if the range begins with one, and the range behind the entry at its first
-/// address: `left` addresses from `at` on.
+/// A range's first table, if the range begins with one, and the range behind the entry at its first address.
 #[derive(Clone, Copy)]
 struct TablePart {
     table: Option<u64>,
-    at: u64,
-    left: u64,
+    rest: Rest,
 }
 
 impl<E: Entry, const LEVELS: usize> Walker<E, LEVELS> {
@@ -82,33 +81,25 @@ impl<E: Entry, const LEVELS: usize> Walker<E, LEVELS> {
         Tables {
             mem,
             root,
-            at: from,
-            left: bytes,
+            rest: Self::range(mem, root, from, bytes),
             entry: PhantomData,
         }
     }
 
     /// Takes from a range the addresses that share an entry of height 1 or above with its first.
-    fn table_part<M: Memory>(mem: &M, root: u64, at: u64, left: u64) -> TablePart
-        requires aligned { root % 4096 ≡ 0 }
-        requires some_levels { 2 ≤ LEVELS }
-        requires most_levels { LEVELS ≤ 4 }
-        requires some { 0 < left }
-        requires range { at + left ≤ 2 ^ 64 }
-        ensures shorter { result.left < left }
-        ensures within { result.at + result.left ≤ 2 ^ 64 }
+    fn table_part<M: Memory>(mem: &M, root: u64, rest: Rest) -> TablePart
+        requires rest { IsRest (tables_of (M.word_at mem.now) E.kind_of LEVELS root) 1 rest }
+        requires some { 0 < rest.left }
+        ensures shorter { result.rest.left < rest.left }
+        ensures rest { IsRest (tables_of (M.word_at mem.now) E.kind_of LEVELS root) 1 result.rest }
         ensures tables { let tables = tables_of (M.word_at mem.now) E.kind_of LEVELS root in
-            last_tables_in tables at left ≡ option_to_list result.table ++ last_tables_in tables result.at result.left }
+            last_tables_in tables rest.at rest.left
+            ≡ option_to_list result.table ++ last_tables_in tables result.rest.at result.rest.left }
     {
-        let reached = Self::descend(mem, root, at, 1);
-        let size = bytes_under(reached.height);
-        let bytes = left.min(size - at % size);
-        let table = table_of_kind(Self::kind(reached.entry, reached.height));
-        // The sum wraps only where nothing is left.
+        let part = Self::part(mem, root, rest, 1);
         TablePart {
-            table,
-            at: at.wrapping_add(bytes),
-            left: left - bytes,
+            table: table_of_kind(Self::kind(part.entry, part.height)),
+            rest: part.rest,
         }
     }
 }

@@ -2,7 +2,7 @@
 ghost use Rattle.std.specs.Prelude.{◌≡◌, ◌≤◌, ◌<◌, ◌%◌, ◌+◌, ◌^◌, ℕ, Option, Some, None, MatchOption, IfSome};
 ghost use Rattle.fd_pte.specs.Entry.{IsPlaced};
 ghost use Rattle.fd_walk.specs.PageTables.{tables_of, kind_of_entry};
-ghost use Rattle.fd_walk.specs.Descent.{IsReached};
+ghost use Rattle.fd_walk.specs.Descent.{IsInTable, IsReached};
 ghost use Rattle.fd_walk.specs.Leaf.{leaf_of_entry};
 ghost use Rattle.fd_walk.specs.Step.{step_at};
 
@@ -18,6 +18,13 @@ use std::marker::PhantomData;
 /// Of an address only the index bits are used. A table outside the memory has no entries.
 pub struct Walker<E: Entry, const LEVELS: usize> {
     entry: PhantomData<E>,
+}
+
+/// A table that a walk comes to, and the height of its entries.
+#[derive(Clone, Copy)]
+pub(crate) struct Place {
+    pub(crate) height: u32,
+    pub(crate) table: u64,
 }
 
 /// The lowest entry that a walk came to, with the table that holds it.
@@ -60,7 +67,7 @@ impl<E: Entry, const LEVELS: usize> Walker<E, LEVELS> {
         }
     }
 
-    /// Walks down to the entry of height `lowest`, or to the first above it that names no table.
+    /// Walks from the topmost table down to the entry of height `lowest`, or to the first above it that names no table.
     pub(crate) fn descend<M: Memory>(mem: &M, root: u64, va: u64, lowest: u32) -> Reached
         requires aligned { root % 4096 ≡ 0 }
         requires lowest { lowest < LEVELS }
@@ -69,8 +76,34 @@ impl<E: Entry, const LEVELS: usize> Walker<E, LEVELS> {
             IsReached tables lowest va result.height result.table result.entry }
         ensures room { result.table + 4096 ≤ 2 ^ 64 }
     {
-        let mut height = LEVELS as u32 - 1;
-        let mut table = root;
+        Self::descend_from(mem, Self::topmost(root), va, lowest)
+    }
+
+    /// The topmost table.
+    pub(crate) fn topmost(root: u64) -> Place
+        requires some_levels { 1 ≤ LEVELS }
+        requires most_levels { LEVELS ≤ 4 }
+        ensures height { result.height + 1 ≡ LEVELS }
+        ensures table { result.table ≡ root }
+    {
+        Place {
+            height: LEVELS as u32 - 1,
+            table: root,
+        }
+    }
+
+    /// Walks on from a table that the walk for an address comes to.
+    pub(crate) fn descend_from<M: Memory>(mem: &M, place: Place, va: u64, lowest: u32) -> Reached
+        requires low { lowest ≤ place.height }
+        requires high { place.height ≤ 3 }
+        requires room { place.table + 4096 ≤ 2 ^ 64 }
+        ensures reached { (root : ℕ) → let tables = tables_of (M.word_at mem.now) E.kind_of LEVELS root in
+            IsInTable tables va place.height place.table → IsReached tables lowest va result.height result.table result.entry }
+        ensures high { result.height ≤ 3 }
+        ensures room { result.table + 4096 ≤ 2 ^ 64 }
+    {
+        let mut height = place.height;
+        let mut table = place.table;
         let mut entry = mem.word(table + 8 * index_at(va, height));
         while height > lowest {
             match Self::kind(entry, height) {

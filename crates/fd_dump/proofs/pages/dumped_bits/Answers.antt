@@ -1,9 +1,7 @@
 -- The bits are set of the wanted pages, then of the mapped ones, then of the tables.
-use Rattle.std.proofs.Common.{◌≡◌, ◌∙◌, ℕ, List, Bool, true, false, ◌&&◌, length, replicate, Result, Ok, Err, is_ok, IfOk, ap, sym}
-use Rattle.std.specs.Prelude.{◌==◌, MatchResult}
+use Rattle.std.proofs.Common.{◌≡◌, ◌∙◌, ℕ, List, Bool, true, false, ◌&&◌, length, replicate, ap, sym}
+use Rattle.std.specs.Prelude.{◌==◌}
 use Rattle.std.specs.List.{list_any}
-use Rattle.std.specs.declared.alloc.AllocError.{AllocError}
-use Rattle.fd_bitmap.specs.declared.bitmap.NoMemory.{NoMemory}
 use Rattle.std.proofs.lemmas.List.{length-replicate}
 use Rattle.fd_dump.specs.Dumped.{is_wanted, is_mapped, is_last_table, dumps_last_tables}
 use Rattle.fd_dump.specs.Marks.{marked}
@@ -15,36 +13,32 @@ pub mark_wanted-requires-clause-low : goal.mark_wanted-requires-clause-low
 mark_wanted-requires-clause-low g c = rw c.windows-windows.ensures.value (direct_map_low c.args.image.now c.windows-windows.ensures.valid)
 
 -- no bit is set at first
-fresh : (bits : ℕ) (pages : List ℕ) (made : Result (List Bool) NoMemory) (r : Result (List Bool) AllocError) (map : List Bool) (Q : NoMemory → Type 0)
-    → bits ≡ length pages → is_ok r ≡ is_ok made → MatchResult made (λ m. r ≡ Ok m) Q → r ≡ Ok map → IfOk made (λ m. m ≡ replicate bits false) → map ≡ replicate (length pages) false
-fresh bits pages (Ok new) r map Q count same cases is clear = let e : new ≡ map = cc in sym e ∙ clear ∙ ap (λ n. replicate n false) count
-fresh bits pages (Err fault) r map Q count same cases is clear = let clash : true ≡ false = ap is_ok (sym is) ∙ same in absurd cc
+fresh : (bits : ℕ) (pages : List ℕ) (map : List Bool) → bits ≡ length pages → map ≡ replicate bits false → map ≡ replicate (length pages) false
+fresh bits pages map count clear = clear ∙ ap (λ n. replicate n false) count
 
 pub mark_mapped-requires : goal.mark_mapped-requires
 mark_mapped-requires g c =
-    let new = fresh c.bits.result c.args.avail.now c.new.result c.map_err.result c.in_ok-map.map _ c.bits.ensures.count c.map_err.ensures.variant c.map_err.ensures.cases c.in_ok-map.was c.new.ensures in
+    let new = fresh c.bits.result c.args.avail.now c.in_ok-map.map c.bits.ensures.count c.in_ok-map.ensures in
     record {
       serves = c.requires.serves;
       windows = c.windows-windows.ensures.value;
       low = rw c.windows-windows.ensures.value (direct_map_low c.args.image.now c.windows-windows.ensures.valid);
-      rising = c.bits.ensures.rising;
       bits = c.mark_wanted.ensures.bits ∙ ap length new ∙ length-replicate (length c.args.avail.now) false;
     }
 
 pub mark_dumped_tables-requires : goal.mark_dumped_tables-requires
 mark_dumped_tables-requires g c =
-    let new = fresh c.bits.result c.args.avail.now c.new.result c.map_err.result c.in_ok-map.map _ c.bits.ensures.count c.map_err.ensures.variant c.map_err.ensures.cases c.in_ok-map.was c.new.ensures in
+    let new = fresh c.bits.result c.args.avail.now c.in_ok-map.map c.bits.ensures.count c.in_ok-map.ensures in
     record {
       serves = c.requires.serves;
       windows = c.windows-windows.ensures.value;
       low = rw c.windows-windows.ensures.value (direct_map_low c.args.image.now c.windows-windows.ensures.valid);
-      rising = c.bits.ensures.rising;
       bits = c.mark_mapped.ensures.bits ∙ c.mark_wanted.ensures.bits ∙ ap length new ∙ length-replicate (length c.args.avail.now) false;
     }
 
 pub returns : goal.returns
 returns g c =
-    let new = fresh c.bits.result c.args.avail.now c.new.result c.map_err.result c.in_ok-map.map _ c.bits.ensures.count c.map_err.ensures.variant c.map_err.ensures.cases c.in_ok-map.was c.new.ensures in
+    let new = fresh c.bits.result c.args.avail.now c.in_ok-map.map c.bits.ensures.count c.in_ok-map.ensures in
     c.mark_dumped_tables.ensures.marks
     ∙ ap (marked c.windows-windows.result (λ page. dumps_last_tables c.args.image.now.arch && is_last_table c.args.image.now page) c.args.avail.now)
     (c.mark_mapped.ensures.marks

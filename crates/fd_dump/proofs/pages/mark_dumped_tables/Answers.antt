@@ -4,8 +4,8 @@ use Rattle.fd_dump.specs.Dumped.{dumps_last_tables, is_last_table}
 use Rattle.fd_dump.proofs.Marking.{marked-unless}
 use Rattle.fd_dump.proofs.pages.mark_dumped_tables.Goals as goal
 
-pub returns-else-dumps_last_tables : goal.returns-else-dumps_last_tables
-returns-else-dumps_last_tables g c = record {
+pub returns-else-profile : goal.returns-else-profile
+returns-else-profile g c = record {
   marks = marked-unless c.args.windows.now (dumps_last_tables c.args.image.now.arch) (is_last_table c.args.image.now) c.args.avail.now c.args.map.now
-      (ap dumps_last_tables (sym c.arch.ensures.value) ∙ sym c.dumps_last_tables.ensures ∙ c.if-dumps_last_tables.false);
+      (ap dumps_last_tables (sym c.arch.ensures.value) ∙ ap (λ profile. profile.dumps_last_tables) (sym c.profile.ensures) ∙ c.if-profile.false);
 }

@@ -10,7 +10,7 @@ use Rattle.fd_dump.proofs.pages.mark_mapped.Goals as goal
 
 pub leaves-leaf-items-requires : goal.leaves-leaf-items-requires
 leaves-leaf-items-requires g c =
-    let levels = tall_of _ _ _ c.requires.serves.level_count c.requires.serves.heights in
+    let levels = tall_of _ _ c.args.image.now c.requires.serves.level_count c.requires.serves.heights in
     let window = window_divided c.args.image.now c.root.ensures.valid in
     let aligned : c.root.result % 4096 ≡ 0 = ap (λ root. root % 4096) c.root.ensures.value ∙ root_is_aligned c.args.image.now c.root.ensures.valid in
     let end : c.args.windows.now.kernbase + c.args.windows.now.kernspan ≤ 2 ^ 64 = rw c.requires.windows window.end in

@@ -1,7 +1,7 @@
 -- What `get_mut` says of each name, after the write.
 use Rattle.std.proofs.Common.{◌≡◌, List, ℕ, arith}
 use Rattle.std.proofs.lemmas.Map.Text.{text_keys}
-use Rattle.fd_fake.specs.Disk.{content}
+use Rattle.fd_fake.specs.Directory.{content}
 use Rattle.fd_fake.proofs.Current.{on_err}
 use Rattle.fd_fake.proofs.directory.write_in.Goals as goal
 

@@ -11,7 +11,7 @@ open_sections-requires-clause-limit g c = bitmap_within c.read_file.new.out c.in
 
 pub returns-in-Ok-clause-opening : goal.returns-in-Ok-clause-opening
 returns-in-Ok-clause-opening g c told is =
-    taken_page (file_of told c.args.name.now) c.args.len c.read_file.new.out c.in-Ok.header c.open_sections.result (c.requires.len told is) c.if-len-lt4096.false (c.in_ok-read_file.ensures.bytes told is) (sym c.in-Ok.ensures) (c.open_sections.ensures.opening told (c.in_ok-read_file.ensures.same ∙ is))
+    taken_page (file_of told c.args.name.now) c.args.len c.read_file.new.out c.in-Ok.header c.open_sections.result (c.requires.len told is) c.if-len-lt4096.false (c.in_ok-read_file.ensures.bytes told is) (sym c.in-Ok.ensures) (c.open_sections.ensures.opening told (c.in_ok-read_file.ensures.untouched.told ∙ is))
 
 pub returns-in-Err-clause-opening : goal.returns-in-Err-clause-opening
 returns-in-Err-clause-opening g c told is =

@@ -4,10 +4,10 @@ use Rattle.std.proofs.lemmas.Grind.{common_steps}
 use Rattle.std.proofs.Common.{Some, cond}
 use Rattle.std.specs.Str.{bytes_eq}
 use Rattle.fd_site.specs.Journal.{Create, file_step, part_after}
-use Rattle.fd_fake.specs.Disk.{content}
+use Rattle.fd_fake.specs.Directory.{content}
 use Rattle.fd_fake.proofs.Current.{current-file}
 use Rattle.fd_fake.specs.Entries.{entries}
-use Rattle.fd_fake.specs.Memory.{part_now}
+use Rattle.fd_fake.specs.Disk.{part_now}
 use Rattle.fd_site.proofs.Written.{part_after-append}
 use Rattle.fd_fake.proofs.disk.Disk.create.Goals as goal
 

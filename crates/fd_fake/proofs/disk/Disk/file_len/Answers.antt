@@ -1,8 +1,8 @@
 -- The file of this name is the one after the journal.
 use Rattle.std.proofs.Common.{◌≡◌, List, ℕ, length, ◌∙◌, ap}
 use Rattle.std.specs.Option.{option_map}
-use Rattle.fd_fake.specs.Disk.{content}
-use Rattle.fd_fake.specs.Memory.{file_now}
+use Rattle.fd_fake.specs.Directory.{content}
+use Rattle.fd_fake.specs.Disk.{file_now}
 use Rattle.fd_fake.proofs.Current.{current-content}
 use Rattle.fd_fake.proofs.disk.Disk.file_len.Goals as goal
 

@@ -2,9 +2,8 @@
 use Rattle.std.proofs.Common.{◌≡◌, [], List, ℕ, Some, None, cond, sym, ◌∙◌, ap}
 use Rattle.std.specs.Str.{bytes_eq}
 use Rattle.fd_site.specs.Journal.{file_after}
-use Rattle.fd_fake.specs.Disk.{content, listed}
+use Rattle.fd_fake.specs.Directory.{content, file_in, listed}
 use Rattle.fd_fake.specs.Entries.{entries}
-use Rattle.fd_fake.specs.Memory.{file_in}
 use Rattle.fd_fake.proofs.Current.{file_in-listed, on_err, taken_out}
 use Rattle.fd_fake.proofs.disk.Disk.preset_file.Goals as goal
 

@@ -1,7 +1,7 @@
 -- The file of this name is the one after the journal.
 use Rattle.std.proofs.Common.{◌≡◌, ◌+◌, ◌≤◌, List, ℕ, length, slice_range, IfSome, IsSomeAnd, sym, ◌∙◌, ap, subst}
-use Rattle.fd_fake.specs.Disk.{content}
-use Rattle.fd_fake.specs.Memory.{file_now}
+use Rattle.fd_fake.specs.Directory.{content}
+use Rattle.fd_fake.specs.Disk.{file_now}
 use Rattle.fd_fake.proofs.Current.{current-content}
 use Rattle.fd_fake.proofs.disk.Disk.read_file.Goals as goal
 

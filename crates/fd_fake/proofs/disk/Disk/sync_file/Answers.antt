@@ -2,10 +2,10 @@
 use Rattle.std.proofs.Common.{◌≡◌, ◌++◌, [], ◌∷◌, refl, ◌∙◌, ap, arith}
 use Rattle.std.proofs.lemmas.Grind.{common_steps}
 use Rattle.fd_site.specs.Journal.{Sync, part_after}
-use Rattle.fd_fake.specs.Disk.{content}
+use Rattle.fd_fake.specs.Directory.{content}
 use Rattle.fd_fake.proofs.Current.{current-file, synced}
 use Rattle.fd_fake.specs.Entries.{entries}
-use Rattle.fd_fake.specs.Memory.{part_now}
+use Rattle.fd_fake.specs.Disk.{part_now}
 use Rattle.fd_site.proofs.Written.{part_after-append}
 use Rattle.fd_fake.proofs.disk.Disk.sync_file.Goals as goal
 

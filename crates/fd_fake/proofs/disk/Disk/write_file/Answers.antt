@@ -4,7 +4,7 @@ use Rattle.std.proofs.lemmas.Grind.{common_steps}
 use Rattle.fd_site.specs.Journal.{Write, part_after}
 use Rattle.fd_fake.proofs.Current.{current-file}
 use Rattle.fd_fake.specs.Entries.{entries}
-use Rattle.fd_fake.specs.Memory.{part_now}
+use Rattle.fd_fake.specs.Disk.{part_now}
 use Rattle.fd_site.proofs.Written.{part_after-append}
 use Rattle.fd_fake.proofs.disk.Disk.write_file.Goals as goal
 

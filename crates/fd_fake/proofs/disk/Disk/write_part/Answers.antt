@@ -3,7 +3,7 @@ use Rattle.std.proofs.Common.{◌≡◌, ◌++◌, [], ◌∷◌, length, sym, �
 use Rattle.std.proofs.lemmas.Grind.{common_steps}
 use Rattle.fd_site.specs.Contents.{whole_part}
 use Rattle.fd_fake.specs.Entries.{entries}
-use Rattle.fd_fake.specs.Memory.{part_now}
+use Rattle.fd_fake.specs.Disk.{part_now}
 use Rattle.fd_fake.proofs.Current.{current-part}
 use Rattle.fd_fake.proofs.disk.Disk.write_part.Goals as goal
 

@@ -7,11 +7,11 @@ use Rattle.fd_kvm.proofs.reader.Kvm.read.Given as goal
 abbrev pub invariant-loop-at : goal.invariant-loop-at
 invariant-loop-at g l = record {
   inside : l.at ≤ length l.out;
-  front : Told (g.S.Site.told l.fn.site) (λ c. (f : List ℕ) → file_of c l.self.name ≡ Some f → IsFront (byte_in f l.self.sections) l.va l.fn.out l.out l.at);
-  same : g.S.Site.told l.site ≡ g.S.Site.told l.fn.site;
-  size : g.S.Site.part_size l.site ≡ g.S.Site.part_size l.fn.site;
-  block : g.S.Site.block_size l.site ≡ g.S.Site.block_size l.fn.site;
-  count : g.S.Site.faults l.fn.site ≤ g.S.Site.faults l.site;
+  front : Told (g.S.Site.seen l.fn.site).told (λ c. (f : List ℕ) → file_of c l.self.name ≡ Some f → IsFront (byte_in f l.self.sections) l.va l.fn.out l.out l.at);
+  same : (g.S.Site.seen l.site).told ≡ (g.S.Site.seen l.fn.site).told;
+  size : (g.S.Site.seen l.site).size ≡ (g.S.Site.seen l.fn.site).size;
+  block : (g.S.Site.seen l.site).block ≡ (g.S.Site.seen l.fn.site).block;
+  count : (g.S.Site.seen l.fn.site).faults ≤ (g.S.Site.seen l.site).faults;
 }
 
 abbrev pub decreases-loop-at : goal.decreases-loop-at

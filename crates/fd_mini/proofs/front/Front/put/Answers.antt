@@ -1,3 +1,4 @@
+-- What lies behind the bytes that were put stays zero.
 use Rattle.std.proofs.Common.{◌≡◌, ◌+◌, ◌≤◌, ℕ, List, length, take, ap, arith}
 use Rattle.std.proofs.lemmas.List.{length-take}
 use Rattle.fd_mini.proofs.Fronts.{rest_stays_zero}
