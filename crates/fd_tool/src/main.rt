@@ -6,10 +6,10 @@
 ghost use Rattle.std.specs.Prelude.{◌≡◌, ◌≢◌};
 ghost use Rattle.std.specs.Process.{exit_status};
 ghost use Rattle.std.specs.IoError.{error_kind};
-ghost use Rattle.fd_site.specs.Fault.{Rose};
-ghost use Rattle.fd_cli.specs.Ending.{Ends};
-ghost use Rattle.fd_cli.specs.declared.refusal.Refusal.TheVariants.{NotCommand};
-ghost use Rattle.fd_cli.specs.declared.answer.Answer.TheVariants.{Refused};
+ghost use Rattle.fd_cli.specs.Command.{command_of};
+ghost use Rattle.fd_cli.specs.Ending.{Call};
+ghost use Rattle.fd_cli.specs.Row.{Reach, outside};
+ghost use Rattle.fd_cli.specs.Rows.{no_command_row, row_of};
 
 use fd_cli::{Invocation, Refusal, crashway, read_invocation, status};
 use fd_os::{DirSite, StdSink, hold_standard, say};
@@ -48,10 +48,9 @@ fn early_status<R: Eprint + AllocGlobal>(rt: &R, what: &str, why: io::Error) -> 
     status::FAULT
 }
 
-// Refuses words that name no directory and block.
+// Refuses words that name no directory and block, as words that are no command.
 fn refuse<O: Sink>(alloc: Global, out: &mut O) -> u8
-    ensures ends { Ends (λ answer. answer ≡ Refused NotCommand) result (O.seen out.old).told (O.seen out.new).told }
-    ensures cause { result ≡ 74 → Rose (O.seen out.old).faults (O.seen out.new).faults }
+    ensures { (at : Reach) → Call no_command_row (record { reach = at; sink = O.seen out.old }) (record { reach = at; sink = O.seen out.new }) result }
 {
     let refusal = Refusal::NotCommand;
     let text = match format!(in alloc; "{refusal}\n") {
