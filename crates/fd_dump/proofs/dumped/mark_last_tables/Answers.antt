@@ -6,7 +6,7 @@ use Rattle.fd_dump.specs.Marks.{marked}
 use Rattle.fd_image.proofs.Valid.{root_is_aligned}
 use Rattle.fd_dump.proofs.Limits.{tall_of, window_divided}
 use Rattle.fd_dump.proofs.Marking.{marked-each, marked-empty}
-use Rattle.fd_dump.proofs.pages.mark_last_tables.Goals as goal
+use Rattle.fd_dump.proofs.dumped.mark_last_tables.Goals as goal
 
 pub tables-table-items-requires : goal.tables-table-items-requires
 tables-table-items-requires g c =

@@ -2,7 +2,7 @@
 use Rattle.std.proofs.Common.{arith}
 use Rattle.std.specs.Prelude.{◌==◌}
 use Rattle.fd_dump.proofs.Marking.{marked-next, marked-past}
-use Rattle.fd_dump.proofs.pages.mark_wanted.Goals as goal
+use Rattle.fd_dump.proofs.dumped.mark_wanted.Goals as goal
 
 pub loop-page-preserved : goal.loop-page-preserved
 loop-page-preserved c =

@@ -2,7 +2,7 @@
 use Rattle.std.proofs.Common.{◌∙◌, ap, sym}
 use Rattle.fd_dump.specs.Dumped.{dumps_last_tables, is_last_table}
 use Rattle.fd_dump.proofs.Marking.{marked-unless}
-use Rattle.fd_dump.proofs.pages.mark_dumped_tables.Goals as goal
+use Rattle.fd_dump.proofs.dumped.mark_dumped_tables.Goals as goal
 
 pub returns-else-profile : goal.returns-else-profile
 returns-else-profile g c = record {

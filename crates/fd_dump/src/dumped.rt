@@ -90,14 +90,16 @@ fn mark_mapped<E: Entry, const LEVELS: usize>(
     ensures marks { map.new ≡ marked windows.now (is_mapped image.now) avail.now map.old }
     ensures bits { length map.new ≡ length map.old }
 {
-    let mut near = 0;
+    // Each place in a table has a range of its own, since tables that are shared name the same pages there.
+    let mut near = [0; 512];
     for leaf in Walker::<E, LEVELS>::leaves(
         image,
         image.root(),
         windows.kernbase,
         windows.kernspan,
     ) {
-        mark_leaf(map, avail, windows, &leaf, &mut near);
+        let place = (leaf.va / 4096 % 512) as usize;
+        mark_leaf(map, avail, windows, &leaf, &mut near[place]);
     }
 }
 

@@ -1,9 +1,10 @@
+-- The tables that are left are still to be marked.
 use Rattle.std.proofs.Common.{◌≡◌, length}
 use Rattle.std.specs.Prelude.{◌==◌}
 use Rattle.std.specs.List.{list_any}
 use Rattle.fd_dump.specs.Dumped.{is_last_table}
 use Rattle.fd_dump.specs.Marks.{marked}
-use Rattle.fd_dump.proofs.pages.mark_last_tables.Given as goal
+use Rattle.fd_dump.proofs.dumped.mark_last_tables.Given as goal
 
 abbrev pub invariant-loop-table : goal.invariant-loop-table
 invariant-loop-table g l = record {

@@ -1,8 +1,9 @@
+-- The wanted pages that are left are still to be marked.
 use Rattle.std.proofs.Common.{◌≡◌, drop, length}
 use Rattle.std.specs.Prelude.{◌==◌}
 use Rattle.std.specs.List.{list_any}
 use Rattle.fd_dump.specs.Marks.{marked}
-use Rattle.fd_dump.proofs.pages.mark_wanted.Given as goal
+use Rattle.fd_dump.proofs.dumped.mark_wanted.Given as goal
 
 abbrev pub invariant-loop-page : goal.invariant-loop-page
 invariant-loop-page l = record {

@@ -4,7 +4,7 @@ use Rattle.fd_pte.specs.Architecture.{directory_height_of}
 use Rattle.fd_pte.specs.Entry.{bytes_under}
 use Rattle.fd_dump.specs.Minidump.{entry_count}
 use Rattle.fd_dump.proofs.Limits.{window_divided}
-use Rattle.fd_dump.proofs.fields.directory_size.Goals as goal
+use Rattle.fd_dump.proofs.header_page.directory_size.Goals as goal
 
 pub overflow_cast-result : goal.overflow_cast-result
 overflow_cast-result c =

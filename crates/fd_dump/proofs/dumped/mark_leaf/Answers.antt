@@ -1,7 +1,7 @@
 -- The pages from the first to the last that the leaf maps and the direct map reaches.
 use Rattle.std.proofs.Common.{◌∙◌, arith}
 use Rattle.fd_dump.proofs.Marking.{marked-leaf}
-use Rattle.fd_dump.proofs.pages.mark_leaf.Goals as goal
+use Rattle.fd_dump.proofs.dumped.mark_leaf.Goals as goal
 
 pub returns-clause-marks : goal.returns-clause-marks
 returns-clause-marks c =

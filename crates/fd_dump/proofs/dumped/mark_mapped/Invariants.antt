@@ -1,8 +1,9 @@
+-- The leaves that are left are still to be marked.
 use Rattle.std.proofs.Common.{◌≡◌, length}
 use Rattle.std.specs.List.{list_any}
 use Rattle.fd_dump.specs.Dumped.{is_under_leaf, is_mapped}
 use Rattle.fd_dump.specs.Marks.{marked}
-use Rattle.fd_dump.proofs.pages.mark_mapped.Given as goal
+use Rattle.fd_dump.proofs.dumped.mark_mapped.Given as goal
 
 abbrev pub invariant-loop-leaf : goal.invariant-loop-leaf
 invariant-loop-leaf g l = record {

@@ -1,7 +1,7 @@
 -- The sizes fit their fields, because the image keeps its limits.
 use Rattle.std.proofs.Common.{length, ap, arith}
 use Rattle.fd_dump.proofs.Limits.{small, pages_few}
-use Rattle.fd_dump.proofs.fields.mini_header.Goals as goal
+use Rattle.fd_dump.proofs.header_page.mini_header.Goals as goal
 
 pub overflow_cast-result : goal.overflow_cast-result
 overflow_cast-result c =

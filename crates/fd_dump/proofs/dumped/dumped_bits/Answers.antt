@@ -1,5 +1,5 @@
 -- The bits are set of the wanted pages, then of the mapped ones, then of the tables.
-use Rattle.std.proofs.Common.{◌≡◌, ◌∙◌, ℕ, List, Bool, true, false, ◌&&◌, length, replicate, ap, sym}
+use Rattle.std.proofs.Common.{◌≡◌, ◌∙◌, ℕ, List, Bool, false, ◌&&◌, length, replicate, ap}
 use Rattle.std.specs.Prelude.{◌==◌}
 use Rattle.std.specs.List.{list_any}
 use Rattle.std.proofs.lemmas.List.{length-replicate}
@@ -7,7 +7,7 @@ use Rattle.fd_dump.specs.Dumped.{is_wanted, is_mapped, is_last_table, dumps_last
 use Rattle.fd_dump.specs.Marks.{marked}
 use Rattle.fd_dump.proofs.Limits.{direct_map_low}
 use Rattle.fd_dump.proofs.Dumping.{marked_is_dumped}
-use Rattle.fd_dump.proofs.pages.dumped_bits.Goals as goal
+use Rattle.fd_dump.proofs.dumped.dumped_bits.Goals as goal
 
 pub mark_wanted-requires-clause-low : goal.mark_wanted-requires-clause-low
 mark_wanted-requires-clause-low g c = rw c.windows-windows.ensures.value (direct_map_low c.args.image.now c.windows-windows.ensures.valid)
