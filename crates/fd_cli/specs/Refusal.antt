@@ -2,6 +2,8 @@
 use Rattle.std.specs.Prelude.{ℕ, List, ◌++◌, codes}
 use Rattle.std.specs.Fmt.{decimal}
 use Rattle.fd_bytes.specs.Printed.{refused_line}
+use Rattle.fd_imgfile.specs.Fault.{image_number, image_text}
+use Rattle.fd_imgfile.specs.declared.fault.ImageFault.TheVariants as image
 use Rattle.fd_mini.specs.AddressFault.{address_number, address_text}
 use Rattle.fd_mini.specs.MiniFault.{mini_number, mini_text}
 use Rattle.fd_part.specs.Printed.{bad_partition_number, bad_partition_text, no_room_number, no_room_text}
@@ -13,9 +15,9 @@ use Rattle.fd_cli.specs.declared.refusal.Refusal.TheVariants.{Mini, Short, BadAv
 abbrev pub number_of : Refusal → ℕ
 number_of (Judged why) = why_number why
 number_of (Address fault) = address_number fault
-number_of NoFile = 41
-number_of (NotImage place) = 42
-number_of (BadImage bad) = 43
+number_of NoFile = image_number image.NoFile
+number_of (NotImage place) = image_number (image.NotImage place)
+number_of (BadImage bad) = image_number (image.BadImage bad)
 number_of (NoRoom room) = no_room_number
 number_of (Partition bad) = bad_partition_number
 number_of (Mini fault) = mini_number fault
@@ -26,9 +28,9 @@ number_of NotCommand = 60
 abbrev pub text_of : Refusal → List ℕ
 text_of (Judged why) = why_text why
 text_of (Address fault) = address_text fault
-text_of NoFile = codes "no file"
-text_of (NotImage place) = codes "not an image at " ++ decimal place
-text_of (BadImage bad) = codes "rule " ++ (decimal bad.rule ++ (codes " at " ++ decimal bad.place))
+text_of NoFile = image_text image.NoFile
+text_of (NotImage place) = image_text (image.NotImage place)
+text_of (BadImage bad) = image_text (image.BadImage bad)
 text_of (NoRoom room) = no_room_text room
 text_of (Partition bad) = bad_partition_text bad
 text_of (Mini fault) = mini_text fault

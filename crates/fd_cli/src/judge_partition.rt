@@ -23,10 +23,7 @@ pub(crate) fn judge_partition<S: Site>(site: &mut S) -> Result<Answer, SiteFault
     let size = site.size();
     let block = site.block();
     if !good_partition(size, block) {
-        return Ok(Answer::Refused(Refusal::Partition(BadPartition {
-            size,
-            block,
-        })));
+        return Ok(Answer::Refused(Refusal::Partition(BadPartition { size, block })));
     }
     match judge(site, false)? {
         Verdict::Dump { header, .. } => Ok(Answer::Dump {

@@ -50,12 +50,7 @@ fn partition(alloc: Global, size: u64, block: u32) -> Result<MemSite, AllocError
     MemSite::new(alloc, size, block, Vec::new(alloc))
 }
 
-fn write<S: Site>(
-    rt: &impl Abort,
-    site: &mut S,
-    at: u64,
-    bytes: &[u8],
-) -> Result<(), Failed> {
+fn write<S: Site>(rt: &impl Abort, site: &mut S, at: u64, bytes: &[u8]) -> Result<(), Failed> {
     let count = bytes.len() as u64;
     assert_eq!(rt; at % 512, 0);
     assert_eq!(rt; count % 512, 0);
@@ -65,12 +60,7 @@ fn write<S: Site>(
     site.write_part(at, bytes)
 }
 
-fn read<S: Site>(
-    rt: &impl Abort,
-    site: &mut S,
-    at: u64,
-    out: &mut [u8],
-) -> Result<(), Failed> {
+fn read<S: Site>(rt: &impl Abort, site: &mut S, at: u64, out: &mut [u8]) -> Result<(), Failed> {
     let count = out.len() as u64;
     assert_eq!(rt; at % 512, 0);
     assert_eq!(rt; count % 512, 0);
@@ -95,12 +85,7 @@ fn refusal<S: Site>(rt: &impl Abort, site: &mut S) -> Result<Option<Why>, SiteFa
 }
 
 // Whether the partition has these bytes from this place on.
-fn has<S: Site>(
-    rt: &impl Abort,
-    site: &mut S,
-    place: u32,
-    bytes: &[u8],
-) -> Result<bool, Failed> {
+fn has<S: Site>(rt: &impl Abort, site: &mut S, place: u32, bytes: &[u8]) -> Result<bool, Failed> {
     let mut sector = [0; 512];
     for i in 0..bytes.len() / 512 {
         let from = i * 512;
@@ -441,8 +426,6 @@ fn a_dump_of_56_mb_is_found_on_64_mib(rt: HostRuntime) -> Result<(), Fail> {
     let body = vec![in alloc; 7; 56434688]?;
     let mut site = partition(alloc, 67108864, 512)?;
     dump(&rt, &mut site, &body);
-    assert!(rt;
-        is_dump(&rt, &mut site, &header(512, 56434688), 10673664, &body)?
-    );
+    assert!(rt; is_dump(&rt, &mut site, &header(512, 56434688), 10673664, &body)?);
     Ok(())
 }
