@@ -1,5 +1,6 @@
 -- What is read from the bytes of a header.
-use Rattle.std.proofs.Common.{◌≡◌, ℕ, zero, suc, Bool, true, false, cond, ◌-◌, ◌<◌, List, [], ◌∷◌, ◌++◌, get_or, length, take, drop, replicate, Err, Ok, refl, sym, ◌∙◌, ap, arith, lit<, length-append}
+use Rattle.std.proofs.Common.{◌≡◌, ℕ, zero, suc, Bool, true, false, cond, ◌-◌, ◌<◌, List, [], ◌∷◌, ◌++◌, get_or, length, take, drop, replicate, Err}
+use Rattle.std.proofs.Common.{Ok, refl, sym, ◌∙◌, ap, arith, lit<, length-append}
 use Rattle.std.proofs.lemmas.List.{append-nil, length-replicate}
 use Rattle.std.proofs.lemmas.Slice.Eq.{bytes_eq-Decides}
 use Rattle.std.specs.Int.{w32, to_be_bytes}
@@ -13,8 +14,10 @@ use Rattle.fd_bytes.proofs.Texts.{text_of-append}
 use Rattle.fd_kdh.specs.Parity.{words, xor_all}
 use Rattle.fd_kdh.specs.declared.header.Header.{Header}
 use Rattle.fd_kdh.specs.declared.header.HeaderFault.TheVariants.{Cleared, NoMagic, TextDump}
-use Rattle.fd_kdh.specs.Header.{FitsFields, IsWithinFields, by_magic, by_parity, by_version, cleared_magic, decoded, dump_header, fields_before_parity, fields_of, live_magic, text_magic}
-use Rattle.fd_kdh.proofs.Bytes.{AllBytes, AllBytes-append, AllBytes-be32, AllBytes-be64, AllBytes-concat, AllBytes-from_All, AllBytes-from_test, AllBytes-zeros, EachBytes, xor_all-fits}
+use Rattle.fd_kdh.specs.Header.{FitsFields, IsWithinFields, by_magic, by_parity, by_version, cleared_magic, decoded, dump_header}
+use Rattle.fd_kdh.specs.Header.{fields_before_parity, fields_of, live_magic, text_magic}
+use Rattle.fd_kdh.proofs.Bytes.{AllBytes, AllBytes-append, AllBytes-be32, AllBytes-be64, AllBytes-concat, AllBytes-from_All, AllBytes-from_test}
+use Rattle.fd_kdh.proofs.Bytes.{AllBytes-zeros, EachBytes, xor_all-fits}
 use Rattle.fd_kdh.proofs.Parities.{sealed}
 use Rattle.fd_kdh.proofs.Parts.{AreSized, element, length-parts, part, start}
 
