@@ -1,24 +1,31 @@
--- What a call of `dump` leaves on the partition, by what it added to the journal.
-use Rattle.std.proofs.Common.{◌≡◌, ◌⊎◌, inl, inr, ℕ, ◌+◌, ◌%◌, ◌<◌, ◌≤◌, ◌^◌, Bool, IsTrue, List, ◌++◌, length, Option, Some, None, refl, sym, ◌∙◌, ap, subst, arith}
-use Rattle.std.proofs.lemmas.Bool.Decides.{nat_tests}
+-- What a call of `dump` leaves on the partition, by its row.
+use Rattle.std.proofs.Common.{◌≡◌, inl, inr, ℕ, ◌<◌, ◌^◌, Bool, true, false, IsTrue, List, ◌++◌, length, Option, Some, refl, sym, ◌∙◌, ap, subst, arith}
+use Rattle.std.specs.Bool.{OnTrue}
 use Rattle.fd_bytes.specs.Arch.{name_of, header_version_of, arch_of_header}
 use Rattle.fd_bytes.specs.declared.arch.Arch.{Arch}
 use Rattle.fd_bytes.specs.declared.arch.Arch.TheVariants.{Amd64, Arm64, Riscv}
-use Rattle.fd_site.specs.Journal.{Entry, part_after}
-use Rattle.fd_site.specs.Contents.{Contents, Told, Adds, part_of, with_entries}
-use Rattle.fd_site.specs.Cut.{part_cut}
-use Rattle.fd_site.proofs.Told.{Before, before}
+use Rattle.fd_site.specs.Contents.{Contents, Told, part_of, with_entries}
+use Rattle.fd_site.specs.Cut.{EachCutOf}
+use Rattle.fd_site.specs.Seen.{Seen}
+use Rattle.fd_site.proofs.Told.{with_entries-nil}
 use Rattle.fd_image.specs.Image.{MachineImage, IsValid}
 use Rattle.fd_dump.specs.Header.{header_of}
 use Rattle.fd_dump.specs.Minidump.{minidump_of}
 use Rattle.fd_dump.proofs.Sizes.{minidump_pages, minidump_some}
 use Rattle.fd_dump.proofs.Headers.{header_within_fields}
-use Rattle.fd_part.specs.Partition.{is_good, IsClear}
-use Rattle.fd_judge.specs.Crash.{IsHeaderFor, IsRefused, IsThisDump, IsRefusedOrThis}
+use Rattle.fd_part.specs.Partition.{is_good}
+use Rattle.fd_part.proofs.Blocks.{IsBlock-good}
+use Rattle.fd_judge.specs.Crash.{IsHeaderFor, IsRefusedOrThis}
 use Rattle.fd_judge.proofs.Calls.{each_cut_of_call, each_cut_of_nothing, this_after_call}
-use Rattle.fd_cli.specs.Dump.{IsNamed, HasBegun, HasFinished, MayHaveStarted, MayHaveAdded, HasDumped, IsRefusedOrNamed, IsFound, EachCut, IfDump}
-use Rattle.fd_cli.specs.declared.command.Command.{Command}
-use Rattle.fd_cli.specs.declared.command.Command.TheVariants as command
+use Rattle.fd_cli.specs.Crash.{IsCutOfDump, IsFound, IsRefusedOrNamed}
+use Rattle.fd_cli.specs.Ending.{Answered, Call, Ends}
+use Rattle.fd_cli.specs.Laws.{EachDumpIsSafe, IsSized, IsSound, JudgeFindsDump, Left, after}
+use Rattle.fd_cli.specs.Row.{Added, Outside, Row, Work}
+use Rattle.fd_cli.specs.Rows.Common.{OnGood}
+use Rattle.fd_cli.specs.Rows.Dump.{IsNamed, MayHaveBegun, dump_row}
+use Rattle.fd_cli.specs.Rows.Judge.{Judges, verdict_answer}
+use Rattle.fd_cli.specs.declared.answer.Answer.TheVariants.{Dump}
+use Rattle.fd_cli.proofs.Outcomes.{IsWhole, whole_of_zero}
 
 -- a header's name and version are those of its architecture alone
 arch_is_named : (arch : Arch) → arch_of_header (name_of arch) (header_version_of arch) ≡ Some arch
@@ -28,7 +35,7 @@ arch_is_named Riscv = refl
 
 -- a block of a good partition has a size of 32 bits
 block_fits : (size block : ℕ) → IsTrue (is_good size block) → block < 2 ^ 32
-block_fits size block good = grind (arith, nat_tests, good)
+block_fits size block good = omega (arith, (IsBlock-good size block good).high)
 
 -- the header of an image's dump is one for its minidump
 header_for : (m : MachineImage) (size block : ℕ) → IsValid m → IsTrue (is_good size block) → IsHeaderFor (minidump_of m) block (header_of m block)
@@ -45,44 +52,86 @@ header_for m size block valid good = record {
   some = minidump_some m valid;
 }
 
--- a whole dump is found
-pub found : (old new : Option Contents) (size block : ℕ) (name : List ℕ)
-    → ((c : Contents) → old ≡ Some c → length (part_of c) ≡ size) → HasDumped old new size block name → IsFound old new name block
-found old new size block name sized (m, named, done) was now told_was told_now =
-    let is_named = named was told_was in (
-      m,
-      is_named,
-      this_after_call old new was now (minidump_of m) (header_of m block) size block told_was told_now (sized was told_was) done.whole done.good done.room
-          (header_for m size block is_named.spells.valid done.good),
-    )
+-- what a call left, however it ended
+pub left_of : (row : Row) (old new : Outside) (status : ℕ) → IsSound row → Call row old new status → Left row old.reach.site new.reach.site.told
+left_of row old new status sound call = by_ending call.ends
+  where
+    by_ending : Ends row old new status → Left row old.reach.site new.reach.site.told
+    by_ending (inl done) = record { added = done.work.added; leaves = sound.whole old.reach.site done.work done.does; told = done.grew.site }
+    by_ending (inr (inl done)) = record { added = done.work.added; leaves = sound.whole old.reach.site done.work done.does; told = done.grew.site }
+    by_ending (inr (inr (inl done))) = record { added = done.added; leaves = done.leaves; told = done.grew.site }
+    by_ending (inr (inr (inr done))) =
+        record { added = done.added; leaves = sound.starved old.reach.site done.added done.starves; told = done.grew.site }
 
 named_or_refused : (c : Contents) (name : List ℕ) (block : ℕ) (part : List ℕ) (m : MachineImage) → IsNamed c name m
     → IsRefusedOrThis (minidump_of m) (header_of m block) block part → IsRefusedOrNamed c name block part
 named_or_refused c name block part m named (inl refused) = inl refused
 named_or_refused c name block part m named (inr this) = inr (m, named, this)
 
--- each cut is refused, or holds the dump
-pub each_cut : (old new : Option Contents) (size block : ℕ) (name : List ℕ)
-    → ((c : Contents) → old ≡ Some c → length (part_of c) ≡ size) → MayHaveStarted old new size block name → EachCut old new name block
-each_cut old new size block name sized (inl same) was now told_was told_now clear k these le =
-    inl (each_cut_of_nothing old new was now block told_was told_now same clear k these le)
-each_cut old new size block name sized (inr (m, named, begun)) was now told_was told_now clear k these le =
+-- each cut of what `dump` leaves is refused, or holds the dump
+each_cut : (found : Seen) (name : List ℕ) (added : Added) (new : Option Contents) → IsSized found → MayHaveBegun name found added
+    → new ≡ with_entries found.told added.entries → EachCutOf found.told new (IsCutOfDump name found.block)
+each_cut found name added new sized (inl none) told was now told_was told_now k these disk le cut clear =
+    let same : new ≡ found.told = told ∙ ap (λ a. with_entries found.told a.entries) none ∙ sym (with_entries-nil found.told) in
+    subst (IsRefusedOrNamed was name found.block) (sym cut.partition)
+    (inl (each_cut_of_nothing found.told new was now told_was told_now found.block same clear k these le))
+each_cut found name added new sized (inr (m, named, begun)) told was now told_was told_now k these disk le cut clear =
     let is_named = named was told_was in
-    named_or_refused was name block _ m is_named
-    (each_cut_of_call old new was now (minidump_of m) (header_of m block) size block told_was told_now (sized was told_was) begun.started begun.good begun.room clear
-    (header_for m size block is_named.spells.valid begun.good) k these le)
+    subst (IsRefusedOrNamed was name found.block) (sym cut.partition)
+    (named_or_refused was name found.block _ m is_named
+    (each_cut_of_call found.told new was now told_was told_now (minidump_of m) (header_of m found.block) found.size found.block (sized was told_was)
+    begun.good begun.room (header_for m found.size found.block is_named.spells.valid begun.good) (added.entries, begun.begun, told) clear k these le))
 
--- the same of any command
-pub found_of_command : (command : Option Command) (old new : Option Contents) (size block : ℕ) → ((c : Contents) → old ≡ Some c → length (part_of c) ≡ size)
-    → IfDump command (HasDumped old new size block) → IfDump command (λ name. IsFound old new name block)
-found_of_command None old new size block sized done = tt
-found_of_command (Some command.Judge) old new size block sized done = tt
-found_of_command (Some (command.Dump name)) old new size block sized done = found old new size block name sized done
-found_of_command (Some (command.Read name va count)) old new size block sized done = tt
+pub each_dump_is_safe : EachDumpIsSafe
+each_dump_is_safe name found new sized left = each_cut found name left.added new sized left.leaves left.told
 
-pub each_cut_of_command : (command : Option Command) (old new : Option Contents) (size block : ℕ) → ((c : Contents) → old ≡ Some c → length (part_of c) ≡ size)
-    → MayHaveAdded old new size block command → IfDump command (λ name. EachCut old new name block)
-each_cut_of_command None old new size block sized added = tt
-each_cut_of_command (Some command.Judge) old new size block sized added = tt
-each_cut_of_command (Some (command.Dump name)) old new size block sized added = each_cut old new size block name sized added
-each_cut_of_command (Some (command.Read name va count)) old new size block sized added = tt
+-- a whole dump is found
+found_after : (found : Seen) (name : List ℕ) (w : Work) (new : Option Contents) → IsSized found → IsWhole name found w
+    → new ≡ with_entries found.told w.added.entries → IsFound found.told new name found.block
+found_after found name w new sized whole told was now told_was told_now =
+    let is_named = whole.named was told_was in
+    let header = header_for whole.image found.size found.block is_named.spells.valid whole.good in (
+      whole.image,
+      is_named,
+      this_after_call found.told new was now told_was told_now (minidump_of whole.image) (header_of whole.image found.block) found.size found.block
+          (sized was told_was) whole.good whole.room header (w.added.entries, whole.dumps.is_dump, told),
+    )
+
+not_74 : (status : ℕ) → status ≡ 74 → status ≡ 0 → ⊥
+not_74 status is zero = omega (arith, is, zero)
+
+not_71 : (status : ℕ) → status ≡ 71 → status ≡ 0 → ⊥
+not_71 status is zero = omega (arith, is, zero)
+
+-- a call that ended with 0 was answered
+answered_zero : (row : Row) (old new : Outside) (status : ℕ) → Ends row old new status → status ≡ 0 → Answered row old new status
+answered_zero row old new status (inl done) zero = done
+answered_zero row old new status (inr (inl done)) zero = absurd (not_74 status done.status_is zero)
+answered_zero row old new status (inr (inr (inl done))) zero = absurd (not_74 status done.status_is zero)
+answered_zero row old new status (inr (inr (inr done))) zero = absurd (not_71 status done.status_is zero)
+
+pub found_of_call : (old new : Outside) (name : List ℕ) (status : ℕ) → IsSized old.reach.site → Call (dump_row name) old new status → status ≡ 0
+    → IsFound old.reach.site.told new.reach.site.told name old.reach.site.block
+found_of_call old new name status sized call zero =
+    let done = answered_zero (dump_row name) old new status call.ends zero in
+    found_after old.reach.site name done.work new.reach.site.told sized
+    (whole_of_zero name old.reach.site done.work done.does (sym done.status_is ∙ zero)) done.grew.site
+
+of_true : (b : Bool) (P : Type 0) → b ≡ true → OnTrue b P → P
+of_true true P is p = p
+of_true false P is p = absurd (cc)
+
+-- after a whole dump, a judge over what it left answers its length
+judged_after : (found : Seen) (name : List ℕ) (dump judge : Work) → IsSized found → IsWhole name found dump
+    → OnGood (after found dump) (Judges (after found dump)) judge
+    → Told found.told (λ c. (m : MachineImage) × IsNamed c name m × (judge.answer ≡ Dump (length (minidump_of m))))
+judged_after found name dump judge sized whole judges c told =
+    let now : Contents = record c { journal = c.journal ++ dump.added.entries } in
+    let told_now : with_entries found.told dump.added.entries ≡ Some now = ap (λ t. with_entries t dump.added.entries) told in
+    let this = found_after found name dump (with_entries found.told dump.added.entries) sized whole refl c now told told_now in
+    let judged = of_true (is_good found.size found.block) (Judges (after found dump) judge) whole.good judges.0 in
+    (this.0, this.1, ap (λ w. w.answer) judged.2 ∙ ap verdict_answer (judged.1 now told_now ∙ this.2.verdict))
+
+pub judge_finds_dump : JudgeFindsDump
+judge_finds_dump name found dump judge sized does zero judges =
+    judged_after found name dump judge sized (whole_of_zero name found dump does zero) judges

@@ -1,6 +1,9 @@
-mod Answers
-mod Begun
+mod Calls
 mod Cuts
+mod Dumps
+mod Good
 mod Images
+mod Outcomes
 mod Reading
 mod Refused
+mod Sound

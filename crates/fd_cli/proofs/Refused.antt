@@ -1,28 +1,13 @@
 -- Files that are refused.
-use Rattle.std.proofs.Common.{◌≡◌, ℕ, true, List, [], Option, Some, None, Result, Ok, Err, IfOk, sym, ap}
+use Rattle.std.proofs.Common.{◌≡◌, ℕ, List, [], Option, Some, None, Result, Ok, Err, IfOk, sym, ap}
 use Rattle.fd_site.specs.Contents.{Contents, Told, file_of}
-use Rattle.fd_imgfile.specs.Reading.{IsReading}
-use Rattle.fd_imgfile.specs.declared.fault.ImageFault.{ImageFault}
-use Rattle.fd_part.specs.Partition.{is_good}
 use Rattle.fd_vmcore.specs.Sections.{IsOpening, opened_file}
 use Rattle.fd_vmcore.specs.declared.open.OpenFault.{OpenFault}
 use Rattle.fd_vmcore.specs.declared.open.OpenFault.TheVariants.{NoFile, Short, Mini, BadAvail, SiteFault, NoMemory}
 use Rattle.fd_kvm.specs.Answer.{by_sections}
-use Rattle.fd_cli.specs.Outcome.{OnGood, IsAnswerToImage, IsDumpAnswer, IsAnswerToFile, IsReadAnswer, file_answer}
-use Rattle.fd_cli.specs.Reply.{Replies}
+use Rattle.fd_cli.specs.Rows.Read.{IsAnswerToFile, IsReadAnswer, file_answer}
 use Rattle.fd_cli.specs.declared.answer.Answer.{Answer}
-use Rattle.fd_cli.specs.declared.reply.Reply.{Reply}
 use Rattle.fd_cli.specs.declared.reply.Trouble.{Trouble}
-use Rattle.fd_cli.proofs.Answers.{over_good}
-
--- the reply to an image that wasn't read is one to `dump`
-pub image_refused : (told : Option Contents) (size block : ℕ) (name : List ℕ) (fault : ImageFault) (result : Result Reply Trouble) → is_good size block ≡ true
-    → Told told (λ c. IsReading (file_of c name) (Err fault)) → IfOk result (λ reply. (s b : ℕ) → Replies (IsAnswerToImage s b (Err fault)) reply)
-    → IfOk result (Replies (OnGood size block (IsDumpAnswer told size block name)))
-image_refused told size block name fault (Err trouble) good reading is = tt
-image_refused told size block name fault (Ok reply) good reading is =
-    let reply_is = is size block in
-    (reply_is.0, over_good (IsDumpAnswer told size block name) reply_is.0 size block good (Err fault, reading, reply_is.1), reply_is.2)
 
 -- a file that isn't opened answers every read with the fault
 by_opening : (file : Option (List ℕ)) (fault : OpenFault) (va count : ℕ) → opened_file file ≡ Err fault → Err fault ≡ file_answer file va count
@@ -35,7 +20,7 @@ answered told name va count fault answer opening is = (Err fault, (λ c told_is.
 
 -- the answer to a file that isn't opened is one to `read`
 pub file_refused : (told : Option Contents) (name : List ℕ) (va count : ℕ) (fault : OpenFault) (result : Result Answer Trouble)
-    → Told told (λ c. IsOpening (opened_file (file_of c name)) (Err fault)) → IfOk result (λ answer. (at : ℕ) → IsAnswerToFile at (Err fault) answer)
+    → Told told (λ c. IsOpening (file_of c name) (Err fault)) → IfOk result (λ answer. (at : ℕ) → IsAnswerToFile at (Err fault) answer)
     → IfOk result (IsReadAnswer told name va count)
 file_refused told name va count fault (Err trouble) opening is = tt
 file_refused told name va count NoFile (Ok answer) opening is = answered told name va count NoFile answer opening (is va)

@@ -1,9 +1,11 @@
 -- How a call of the program ends: what was printed, and the status.
-use Rattle.std.specs.Prelude.{◌≡◌, ◌⊎◌, ℕ, ◌+◌, ◌^◌, ◌≤◌, List, [], ◌∷◌, ◌++◌, length, take, codes, Option}
+use Rattle.std.specs.Prelude.{◌≡◌, ◌⊎◌, ℕ, ◌+◌, ◌^◌, ◌≤◌, List, [], ◌∷◌, ◌++◌, length, take, codes}
 use Rattle.std.specs.Fmt.{decimal}
+use Rattle.fd_site.specs.Fault.{Rose}
 use Rattle.fd_site.specs.Trace.{grown}
 use Rattle.fd_way.specs.ReadText.{read_text}
 use Rattle.fd_cli.specs.Refusal.{line_of, status_of}
+use Rattle.fd_cli.specs.Row.{Added, FaultRose, Grew, Kept, Outside, Row, Work}
 use Rattle.fd_cli.specs.declared.answer.Answer.{Answer}
 use Rattle.fd_cli.specs.declared.answer.Answer.TheVariants.{Dump, Dumped, Read, Refused}
 
@@ -24,21 +26,55 @@ answer_status (Dumped len) = 0
 answer_status (Read address bytes) = 0
 answer_status (Refused refusal) = status_of refusal
 
--- a sink that told the old bytes tells these: some of the first bytes of a text more
-abbrev pub IsPartOf : (text : List ℕ) → (old new : Option (List ℕ)) → Type 0
-IsPartOf text old new = (n : ℕ) × (new ≡ grown old (take n text))
+-- a call ended with an answer: its whole text, and its status
+pub record Answered (row : Row) (old new : Outside) (status : ℕ) : Type 0 where
+  pub work : Work
+  pub does : row.Does old.reach.site work
+  pub grew : Grew old.reach new.reach work.added
+  pub printed : new.sink.told ≡ grown old.sink.told (answer_text work.answer)
+  pub status_is : status ≡ answer_status work.answer
 
--- a call ended with an answer's status, after its whole text
-pub record EndsWith (status : ℕ) (old new : Option (List ℕ)) (answer : Answer) : Type 0 where
-  pub status_is : status ≡ answer_status answer
-  pub text : new ≡ grown old (answer_text answer)
+-- it did its work, but the sink failed: 74, and some of the first bytes of the answer's text
+pub record Unprinted (row : Row) (old new : Outside) (status : ℕ) : Type 0 where
+  pub work : Work
+  pub does : row.Does old.reach.site work
+  pub grew : Grew old.reach new.reach work.added
+  pub n : ℕ
+  pub printed : new.sink.told ≡ grown old.sink.told (take n (answer_text work.answer))
+  pub status_is : status ≡ 74
+  pub rose : Rose old.sink.faults new.sink.faults
 
--- A call ended with an answer of which P holds: its status, after its whole text was printed. Or it ended for want
--- of memory (71) or by a fault (74), and nothing was printed, or a part of such an answer's text.
-abbrev pub Ends : (Answer → Type 0) → ℕ → (old new : Option (List ℕ)) → Type 0
-Ends P status old new =
-    ((answer : Answer) × P answer × EndsWith status old new answer)
-    ⊎ (((status ≡ 71) ⊎ (status ≡ 74)) × ((new ≡ old) ⊎ ((answer : Answer) × P answer × IsPartOf (answer_text answer) old new)))
+-- a fault ended its work: 74, and something has failed that the row blames
+pub record Failed (row : Row) (old new : Outside) (status : ℕ) : Type 0 where
+  pub added : Added
+  pub leaves : row.Leaves old.reach.site added
+  pub grew : Grew old.reach new.reach added
+  pub early : List ℕ
+  pub may_say : row.Says old.reach.site early
+  pub printed : new.sink.told ≡ grown old.sink.told early
+  pub status_is : status ≡ 74
+  pub rose : FaultRose row.blames old.reach new.reach
+
+-- it ended for want of memory: 71
+pub record Starved (row : Row) (old new : Outside) (status : ℕ) : Type 0 where
+  pub added : Added
+  pub starves : row.Starves old.reach.site added
+  pub grew : Grew old.reach new.reach added
+  pub early : List ℕ
+  pub may_say : row.Says old.reach.site early
+  pub printed : new.sink.told ≡ grown old.sink.told early
+  pub status_is : status ≡ 71
+
+-- how a call may end
+abbrev pub Ends : Row → (old new : Outside) → ℕ → Type 0
+Ends row old new status =
+    Answered row old new status ⊎ (Unprinted row old new status ⊎ (Failed row old new status ⊎ Starved row old new status))
+
+-- what a call of a command did: how it ended, and what it kept
+pub record Call (row : Row) (old new : Outside) (status : ℕ) : Type 0 where
+  pub ends : Ends row old new status
+  pub kept : Kept row.blames old.reach new.reach
+  pub sink : old.sink.faults ≤ new.sink.faults
 
 -- the bytes of an answer end at 2^64 or below
 abbrev pub IsPrintable : Answer → Type 0

@@ -1,8 +1,9 @@
 pub mod Command
-pub mod Dump
+pub mod Crash
 pub mod Ending
 pub mod Invocation
-pub mod Kernel
-pub mod Outcome
+pub mod Laws
 pub mod Refusal
 pub mod Reply
+pub mod Row
+pub mod Rows

@@ -1,28 +1,29 @@
+//! `savecore -C`.
+
 ghost use Rattle.std.specs.Prelude.{◌≡◌, ◌≤◌, IfOk, OnErr};
 ghost use Rattle.fd_site.specs.Fault.{Rose};
+ghost use Rattle.fd_site.specs.Seen.{Untouched};
 ghost use Rattle.fd_cli.specs.Ending.{IsPrintable};
-ghost use Rattle.fd_cli.specs.Outcome.{IsJudgeAnswer, OnGood};
+ghost use Rattle.fd_cli.specs.Rows.Common.{DoesOnly};
+ghost use Rattle.fd_cli.specs.Rows.Judge.{judge_row};
 
 use crate::answer::Answer;
 use crate::refusal::Refusal;
 use fd_judge::{Verdict, judge};
-use fd_part::good_partition;
+use fd_part::{BadPartition, good_partition};
 use fd_site::{Site, SiteFault};
 
 /// `savecore -C`: is there a dump on the partition?
 pub(crate) fn judge_partition<S: Site>(site: &mut S) -> Result<Answer, SiteFault>
-    ensures answer { IfOk result (OnGood (S.part_size site.old) (S.block_size site.old) (IsJudgeAnswer (S.told site.old) (S.block_size site.old))) }
+    ensures answer { IfOk result (DoesOnly judge_row (S.seen site.old)) }
     ensures printable { IfOk result IsPrintable }
-    ensures same { S.told site.new ≡ S.told site.old }
-    ensures size { S.part_size site.new ≡ S.part_size site.old }
-    ensures block { S.block_size site.new ≡ S.block_size site.old }
-    ensures count { S.faults site.old ≤ S.faults site.new }
-    ensures cause { OnErr result (Rose (S.faults site.old) (S.faults site.new)) }
+    ensures untouched { Untouched (S.seen site.old) (S.seen site.new) }
+    ensures cause { OnErr result (Rose (S.seen site.old).faults (S.seen site.new).faults) }
 {
     let size = site.size();
     let block = site.block();
     if !good_partition(size, block) {
-        return Ok(Answer::Refused(Refusal::Partition { size, block }));
+        return Ok(Answer::Refused(Refusal::Partition(BadPartition { size, block })));
     }
     match judge(site, false)? {
         Verdict::Dump { header, .. } => Ok(Answer::Dump {

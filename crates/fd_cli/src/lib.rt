@@ -8,6 +8,7 @@ mod command;
 mod dump_image;
 mod invocation;
 mod judge_partition;
+pub mod laws;
 mod read_memory;
 mod refusal;
 mod reply;

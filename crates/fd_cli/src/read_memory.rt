@@ -1,11 +1,13 @@
-ghost use Rattle.std.specs.Prelude.{◌≡◌, ◌≤◌, ℕ, Err, IfOk, IsTrue};
+//! `read FILE ADDRESS LENGTH`.
+
+ghost use Rattle.std.specs.Prelude.{◌≡◌, ◌≤◌, ℕ, Err, IfOk, IsErrOf, IsTrue};
 ghost use Rattle.fd_site.specs.Contents.{Told};
 ghost use Rattle.fd_site.specs.Fault.{Rose};
 ghost use Rattle.fd_site.specs.Name.{is_good_name};
+ghost use Rattle.fd_site.specs.Seen.{Untouched};
 ghost use Rattle.fd_kvm.specs.Reader.{StandsFor};
 ghost use Rattle.fd_cli.specs.Ending.{IsPrintable};
-ghost use Rattle.fd_cli.specs.Outcome.{IsAnswerToFile, IsReadAnswer, IsReaderAnswer, IsSomeRead};
-ghost use Rattle.fd_cli.specs.Reply.{OnSiteFault};
+ghost use Rattle.fd_cli.specs.Rows.Read.{IsAnswerToFile, IsReadAnswer, IsReaderAnswer, IsSomeRead};
 ghost use Rattle.fd_vmcore.specs.declared.open.OpenFault.TheVariants.{SiteFault};
 
 use crate::answer::Answer;
@@ -22,14 +24,14 @@ use std::alloc::Global;
 fn refuse_file(fault: OpenFault) -> Result<Answer, Trouble>
     ensures answer { IfOk result (λ answer. (va : ℕ) → IsAnswerToFile va (Err fault) answer) }
     ensures printable { IfOk result IsPrintable }
-    ensures cause { OnSiteFault result (fault ≡ SiteFault) }
+    ensures cause { IsErrOf result Trouble.Fault → fault ≡ SiteFault }
 {
     let refusal = match fault {
         OpenFault::NoFile => Refusal::NoFile,
         OpenFault::Short(need, have) => Refusal::Short { need, have },
         OpenFault::Mini(fault) => Refusal::Mini(fault),
         OpenFault::BadAvail(index) => Refusal::BadAvail(index),
-        OpenFault::SiteFault => return Err(Trouble::SiteFault),
+        OpenFault::SiteFault => return Err(Trouble::Fault),
         OpenFault::NoMemory => return Err(Trouble::NoMemory),
     };
     Ok(Answer::Refused(refusal))
@@ -44,15 +46,12 @@ fn read_bytes<S: Site>(
     address: u64,
     count: u32,
 ) -> Result<Answer, Trouble>
-    requires { Told (S.told site.old) (StandsFor kvm.now) }
-    ensures answer { IfOk result (IsReaderAnswer (S.told site.old) kvm.now address count) }
+    requires { Told (S.seen site.old).told (StandsFor kvm.now) }
+    ensures answer { IfOk result (IsReaderAnswer (S.seen site.old).told kvm.now address count) }
     ensures some { IfOk result (IsSomeRead address) }
     ensures printable { IfOk result IsPrintable }
-    ensures same { S.told site.new ≡ S.told site.old }
-    ensures size { S.part_size site.new ≡ S.part_size site.old }
-    ensures block { S.block_size site.new ≡ S.block_size site.old }
-    ensures count { S.faults site.old ≤ S.faults site.new }
-    ensures cause { OnSiteFault result (Rose (S.faults site.old) (S.faults site.new)) }
+    ensures untouched { Untouched (S.seen site.old) (S.seen site.new) }
+    ensures cause { IsErrOf result Trouble.Fault → Rose (S.seen site.old).faults (S.seen site.new).faults }
 {
     let mut bytes = vec![in alloc; 0u8; count as usize]?;
     match kvm.read(site, address, &mut bytes) {
@@ -61,7 +60,7 @@ fn read_bytes<S: Site>(
             bytes: Sequence::new(bytes),
         }),
         Err(ReadFault::Address(fault)) => Ok(Answer::Refused(Refusal::Address(fault))),
-        Err(ReadFault::SiteFault) => Err(Trouble::SiteFault),
+        Err(ReadFault::SiteFault) => Err(Trouble::Fault),
     }
 }
 
@@ -74,13 +73,10 @@ pub(crate) fn read_memory<S: Site>(
     count: u32,
 ) -> Result<Answer, Trouble>
     requires { IsTrue (is_good_name file.now) }
-    ensures answer { IfOk result (IsReadAnswer (S.told site.old) file.now address count) }
+    ensures answer { IfOk result (IsReadAnswer (S.seen site.old).told file.now address count) }
     ensures printable { IfOk result IsPrintable }
-    ensures same { S.told site.new ≡ S.told site.old }
-    ensures size { S.part_size site.new ≡ S.part_size site.old }
-    ensures block { S.block_size site.new ≡ S.block_size site.old }
-    ensures count { S.faults site.old ≤ S.faults site.new }
-    ensures cause { OnSiteFault result (Rose (S.faults site.old) (S.faults site.new)) }
+    ensures untouched { Untouched (S.seen site.old) (S.seen site.new) }
+    ensures cause { IsErrOf result Trouble.Fault → Rose (S.seen site.old).faults (S.seen site.new).faults }
 {
     let kvm = match Kvm::open(alloc, site, file.as_str()) {
         Ok(kvm) => kvm,

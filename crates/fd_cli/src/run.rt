@@ -1,12 +1,20 @@
-ghost use Rattle.std.specs.Prelude.{◌≡◌, ◌≤◌, ◌⊎◌, IfOk, IsTrue};
+//! The program's work as one call.
+
+ghost use Rattle.std.specs.Prelude.{◌≡◌, ◌≤◌, ℕ, IsErrOf, IsTrue, List, Some};
+ghost use Rattle.fd_site.specs.Cut.{EachCutOf};
 ghost use Rattle.fd_site.specs.Fault.{Rose};
 ghost use Rattle.fd_site.specs.Name.{is_good_name};
+ghost use Rattle.fd_site.specs.Seen.{Frame};
 ghost use Rattle.fd_cli.specs.Command.{command_of};
-ghost use Rattle.fd_cli.specs.Dump.{EachCut, HasDumped, IfDump, IsFound, MayHaveAdded};
-ghost use Rattle.fd_cli.specs.Ending.{Ends};
-ghost use Rattle.fd_cli.specs.Kernel.{IfRead, ReadsImage};
-ghost use Rattle.fd_cli.specs.Outcome.{IsAnswer, IsJudgeAnswer, IsReadAnswer, OnGood};
-ghost use Rattle.fd_cli.specs.Reply.{OnNoMemory, OnSiteFault, Replies};
+ghost use Rattle.fd_cli.specs.Crash.{IsCutOfDump, IsFound};
+ghost use Rattle.fd_cli.specs.Ending.{Call, Ends};
+ghost use Rattle.fd_cli.specs.Reply.{Worked, WorksOnSite};
+ghost use Rattle.fd_cli.specs.Row.{outside, reach};
+ghost use Rattle.fd_cli.specs.Rows.{row_of};
+ghost use Rattle.fd_cli.specs.Rows.Image.{image_row, OfImage};
+ghost use Rattle.fd_cli.specs.Rows.Judge.{judge_row};
+ghost use Rattle.fd_cli.specs.Rows.Read.{read_row};
+ghost use Rattle.fd_cli.specs.declared.command.Command.TheVariants as command;
 
 use crate::answer::Answer;
 use crate::command::{Command, read_command};
@@ -23,19 +31,16 @@ use std::alloc::Global;
 
 // The reply to `savecore -C`.
 fn judge_reply<S: Site>(alloc: Global, site: &mut S) -> Result<Reply, Trouble>
-    ensures answer { IfOk result (Replies (OnGood (S.part_size site.old) (S.block_size site.old) (IsJudgeAnswer (S.told site.old) (S.block_size site.old)))) }
-    ensures same { S.told site.new ≡ S.told site.old }
-    ensures size { S.part_size site.new ≡ S.part_size site.old }
-    ensures block { S.block_size site.new ≡ S.block_size site.old }
-    ensures count { S.faults site.old ≤ S.faults site.new }
-    ensures cause { OnSiteFault result (Rose (S.faults site.old) (S.faults site.new)) }
+    ensures works { WorksOnSite judge_row (S.seen site.old) (S.seen site.new) result }
+    ensures frame { Frame (S.seen site.old) (S.seen site.new) }
+    ensures cause { IsErrOf result Trouble.Fault → Rose (S.seen site.old).faults (S.seen site.new).faults }
 {
     match judge_partition(site) {
         Ok(answer) => {
             let reply = Reply::new(alloc, &answer)?;
             Ok(reply)
         }
-        Err(SiteFault) => Err(Trouble::SiteFault),
+        Err(SiteFault) => Err(Trouble::Fault),
     }
 }
 
@@ -48,12 +53,9 @@ fn read_reply<S: Site>(
     count: u32,
 ) -> Result<Reply, Trouble>
     requires { IsTrue (is_good_name file.now) }
-    ensures answer { IfOk result (Replies (IsReadAnswer (S.told site.old) file.now address count)) }
-    ensures same { S.told site.new ≡ S.told site.old }
-    ensures size { S.part_size site.new ≡ S.part_size site.old }
-    ensures block { S.block_size site.new ≡ S.block_size site.old }
-    ensures count { S.faults site.old ≤ S.faults site.new }
-    ensures cause { OnSiteFault result (Rose (S.faults site.old) (S.faults site.new)) }
+    ensures works { WorksOnSite (read_row file.now address count) (S.seen site.old) (S.seen site.new) result }
+    ensures frame { Frame (S.seen site.old) (S.seen site.new) }
+    ensures cause { IsErrOf result Trouble.Fault → Rose (S.seen site.old).faults (S.seen site.new).faults }
 {
     let answer = read_memory(alloc, site, file, address, count)?;
     let reply = Reply::new(alloc, &answer)?;
@@ -61,16 +63,14 @@ fn read_reply<S: Site>(
 }
 
 // The reply to the words.
-fn work<S: Site>(alloc: Global, words: &[Word], site: &mut S) -> Result<Reply, Trouble>
-    ensures answer { IfOk result (Replies (IsAnswer (S.told site.old) (S.part_size site.old) (S.block_size site.old) (command_of words.now))) }
-    ensures entries { MayHaveAdded (S.told site.old) (S.told site.new) (S.part_size site.old) (S.block_size site.old) (command_of words.now) }
-    ensures dumped { IfOk result (λ reply. reply.status ≡ 0 → IfDump (command_of words.now) (HasDumped (S.told site.old) (S.told site.new) (S.part_size site.old) (S.block_size site.old))) }
-    ensures refused { IfOk result (λ reply. (reply.status ≡ 0) ⊎ (S.told site.new ≡ S.told site.old)) }
-    ensures memory { OnNoMemory result (S.told site.new ≡ S.told site.old) }
-    ensures size { S.part_size site.new ≡ S.part_size site.old }
-    ensures block { S.block_size site.new ≡ S.block_size site.old }
-    ensures count { S.faults site.old ≤ S.faults site.new }
-    ensures cause { OnSiteFault result (Rose (S.faults site.old) (S.faults site.new)) }
+fn work<S: Site, L: Link, P: Ports>(
+    alloc: Global,
+    words: &[Word],
+    site: &mut S,
+    link: &mut L,
+    ports: &mut P,
+) -> Result<Reply, Trouble>
+    ensures { Worked (row_of (command_of words.now)) (reach (S.seen site.old) (L.seen link.old) (P.seen ports.old)) (reach (S.seen site.new) (L.seen link.new) (P.seen ports.new)) result }
 {
     match read_command(alloc, words)? {
         None => {
@@ -98,19 +98,11 @@ fn carry_out<S: Site, L: Link, P: Ports, O: Sink>(
     ports: &mut P,
     out: &mut O,
 ) -> u8
-    ensures ends { Ends (IsAnswer (S.told site.old) (S.part_size site.old) (S.block_size site.old) (command_of words.now)) result (O.told out.old) (O.told out.new) }
-    ensures fault { result ≡ 74 → Rose (S.faults site.old) (S.faults site.new) ⊎ Rose (O.faults out.old) (O.faults out.new) }
-    ensures untouched { (result ≡ 0) ⊎ ((result ≡ 74) ⊎ (S.told site.new ≡ S.told site.old)) }
-    ensures entries { MayHaveAdded (S.told site.old) (S.told site.new) (S.part_size site.old) (S.block_size site.old) (command_of words.now) }
-    ensures dumped { result ≡ 0 → IfDump (command_of words.now) (HasDumped (S.told site.old) (S.told site.new) (S.part_size site.old) (S.block_size site.old)) }
-    ensures size { S.part_size site.new ≡ S.part_size site.old }
-    ensures block { S.block_size site.new ≡ S.block_size site.old }
-    ensures link { (L.told link.new ≡ L.told link.old) × (L.faults link.new ≡ L.faults link.old) }
-    ensures ports { (P.told ports.new ≡ P.told ports.old) × (P.faults ports.new ≡ P.faults ports.old) }
+    ensures { Call (row_of (command_of words.now)) (outside (S.seen site.old) (L.seen link.old) (P.seen ports.old) (O.seen out.old)) (outside (S.seen site.new) (L.seen link.new) (P.seen ports.new) (O.seen out.new)) result }
 {
-    let reply = match work(alloc, words, site) {
+    let reply = match work(alloc, words, site, link, ports) {
         Ok(reply) => reply,
-        Err(Trouble::SiteFault) => return status::FAULT,
+        Err(Trouble::Fault) => return status::FAULT,
         Err(Trouble::NoMemory) => return status::MEMORY,
     };
     match out.put(reply.text.as_bytes()) {
@@ -135,18 +127,10 @@ pub fn crashway<S: Site, L: Link, P: Ports, O: Sink>(
     ports: &mut P,
     out: &mut O,
 ) -> u8
-    ensures ends { Ends (IsAnswer (S.told site.old) (S.part_size site.old) (S.block_size site.old) (command_of words.now)) result (O.told out.old) (O.told out.new) }
-    ensures fault { result ≡ 74 → Rose (S.faults site.old) (S.faults site.new) ⊎ Rose (O.faults out.old) (O.faults out.new) }
-    ensures untouched { (result ≡ 0) ⊎ ((result ≡ 74) ⊎ (S.told site.new ≡ S.told site.old)) }
-    ensures entries { MayHaveAdded (S.told site.old) (S.told site.new) (S.part_size site.old) (S.block_size site.old) (command_of words.now) }
-    ensures dumped { result ≡ 0 → IfDump (command_of words.now) (HasDumped (S.told site.old) (S.told site.new) (S.part_size site.old) (S.block_size site.old)) }
-    ensures found { result ≡ 0 → IfDump (command_of words.now) (λ name. IsFound (S.told site.old) (S.told site.new) name (S.block_size site.old)) }
-    ensures crash { IfDump (command_of words.now) (λ name. EachCut (S.told site.old) (S.told site.new) name (S.block_size site.old)) }
-    ensures reads { IfRead (command_of words.now) (λ name va count. ReadsImage (S.told site.old) name va count result (O.told out.old) (O.told out.new)) }
-    ensures size { S.part_size site.new ≡ S.part_size site.old }
-    ensures block { S.block_size site.new ≡ S.block_size site.old }
-    ensures link { (L.told link.new ≡ L.told link.old) × (L.faults link.new ≡ L.faults link.old) }
-    ensures ports { (P.told ports.new ≡ P.told ports.old) × (P.faults ports.new ≡ P.faults ports.old) }
+    ensures call { Call (row_of (command_of words.now)) (outside (S.seen site.old) (L.seen link.old) (P.seen ports.old) (O.seen out.old)) (outside (S.seen site.new) (L.seen link.new) (P.seen ports.new) (O.seen out.new)) result }
+    ensures crash { (name : List ℕ) → command_of words.now ≡ Some (command.Dump name) → EachCutOf (S.seen site.old).told (S.seen site.new).told (IsCutOfDump name (S.seen site.old).block) }
+    ensures found { (name : List ℕ) → command_of words.now ≡ Some (command.Dump name) → result ≡ 0 → IsFound (S.seen site.old).told (S.seen site.new).told name (S.seen site.old).block }
+    ensures reads { (name : List ℕ) (va count : ℕ) → command_of words.now ≡ Some (command.Read name va count) → OfImage (S.seen site.old) name (λ m. Ends (image_row m va count) (outside (S.seen site.old) (L.seen link.old) (P.seen ports.old) (O.seen out.old)) (outside (S.seen site.new) (L.seen link.new) (P.seen ports.new) (O.seen out.new)) result) }
 {
     each_read_of_a_minidump_is_the_images();
     carry_out(alloc, words, site, link, ports, out)

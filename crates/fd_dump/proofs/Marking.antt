@@ -1,13 +1,12 @@
 -- Bits that are set for the pages that pass a test.
-use Rattle.std.proofs.Common.{◌≡◌, ◌∙◌, ℕ, zero, suc, ◌+◌, ◌-◌, ◌*◌, ◌/◌, ◌%◌, ◌<◌, ◌≤◌, ◌^◌, min, max, Bool, true, false, ◌&&◌, ◌||◌, List, [], ◌∷◌, length, get_or, set, drop, map, replicate, Some, None, refl, ap, sym, arith, inl, inr, add-one, drop-cons}
-use Rattle.std.specs.Prelude.{◌==◌, nat_le, nat_lt}
+use Rattle.std.proofs.Common.{◌≡◌, ◌∙◌, ℕ, suc, ◌+◌, ◌-◌, ◌*◌, ◌/◌, ◌%◌, ◌<◌, ◌≤◌, ◌^◌, min, max, Bool, true, false, ◌&&◌, ◌||◌, List, [], ◌∷◌, length, get_or, drop, map, replicate, refl, ap, sym, arith, inl, inr, add-one, drop-cons}
+use Rattle.std.specs.Prelude.{◌==◌}
 use Rattle.std.specs.Int.{div_ceil}
 use Rattle.std.specs.List.{list_any}
 use Rattle.std.proofs.lemmas.List.{drop_all}
-use Rattle.std.proofs.lemmas.Bool.{eq-eqb, ne_eqb}
+use Rattle.std.proofs.lemmas.Bool.{ne_eqb}
 use Rattle.std.proofs.lemmas.Bool.Decides.{eqb_tells, nat_tests}
 use Rattle.fd_bitmap.specs.Pages.{is_among, joined}
-use Rattle.fd_bitmap.proofs.JoinedRuns.{length-joined}
 use Rattle.fd_image.specs.declared.parts.Windows.{Windows}
 use Rattle.fd_image.specs.Image.{direct_map_end}
 use Rattle.fd_walk.specs.declared.leaf.Leaf.{Leaf}
@@ -57,10 +56,6 @@ and-false : (b : Bool) → (b && false) ≡ false
 and-false true = refl
 and-false false = refl
 
-pub length-marked : (w : Windows) (test : ℕ → Bool) (pages : List ℕ) (bits : List Bool) → length (marked w test pages bits) ≡ length bits
-unfolding marked
-length-marked w test pages bits = length-joined (is_markable w test) pages bits
-
 -- a test that no page passes which the direct map reaches
 pub marked-none : (w : Windows) (test : ℕ → Bool) (pages : List ℕ) (bits : List Bool) → ((page : ℕ) → is_markable w test page ≡ false) → bits ≡ marked w test pages bits
 unfolding marked
@@ -76,11 +71,6 @@ marked-unreached w pa pages bits unreached = marked-none w (λ address. pa == ad
       | inl same ↦ ap (λ b. b && (pa == page * 4096)) (ap (is_reached w) (sym same.1) ∙ unreached)
       | inr other ↦ ap (λ b. is_reached w (page * 4096) && b) other.0 ∙ and-false (is_reached w (page * 4096))
     ])
-
-pub marked-same : (w : Windows) (test other : ℕ → Bool) (pages : List ℕ) (bits : List Bool) → ((page : ℕ) → is_markable w test page ≡ is_markable w other page)
-    → marked w test pages bits ≡ marked w other pages bits
-unfolding marked
-marked-same w test other pages bits same = joined-same (is_markable w test) (is_markable w other) pages bits same
 
 split_test : (reached here later : Bool) → (reached && (here || later)) ≡ ((reached && later) || (reached && here))
 split_test false here later = refl

@@ -38,7 +38,9 @@ front_length Riscv h is = rw is (lit≤ tt)
 -- a header page has 4096 bytes
 pub length-page_of : (h : MiniHeader) → length (mini.page_of h) ≡ 4096
 unfolding mini.page_of
-length-page_of h = omega (arith, length-append (mini.front_of h) (replicate (4096 - length (mini.front_of h)) 0), length-replicate {A = ℕ} (4096 - length (mini.front_of h)) 0, front_length h.arch h refl)
+length-page_of h =
+    let missing : ℕ = 4096 - length (mini.front_of h) in
+    omega (arith, length-append (mini.front_of h) (replicate missing 0), length-replicate {A = ℕ} missing 0, front_length h.arch h refl)
 
 -- a filled section has its size, rounded up
 pub length-filled : (bytes : List ℕ) → length (filled bytes) ≡ rounded_up (length bytes)

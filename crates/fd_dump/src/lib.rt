@@ -2,9 +2,9 @@
 //! walks of `fd_walk`, the bits of `fd_bitmap` and the header pages of `fd_mini`; follows FreeBSD's `minidump.h`.
 #![tactic(auto)]
 
-mod fields;
+mod dumped;
+mod header_page;
 mod minidump;
-mod pages;
 mod plan;
 mod sections;
 #[cfg(test)]

@@ -5,8 +5,8 @@ ghost use Rattle.fd_mini.specs.Places.{places_of};
 ghost use Rattle.fd_dump.specs.Minidump.{minidump_of};
 ghost use Rattle.fd_dump.specs.Serves.{Serves};
 
-use crate::fields::mini_header;
-use crate::pages::dumped_bits;
+use crate::dumped::dumped_bits;
+use crate::header_page::mini_header;
 use crate::sections::{put_avail, put_bitmap, put_directory, put_filled, put_header, put_memory};
 use fd_bitmap::{Avail, AvailFault};
 use fd_image::Image;

@@ -4,6 +4,7 @@ use fd_bytes::Arch;
 use fd_image::{Image, Parts, Seg, Sequence, Texts, Windows};
 use fd_site::Pieces;
 use std::alloc::{AllocError, Global};
+use std::process::Abort;
 use std::test::Fail;
 
 // The entries of the amd64 machine's page tables that aren't 0.
@@ -46,6 +47,14 @@ fn segment(alloc: Global, start: u64, pages: u64) -> Result<Seg, AllocError> {
     Ok(Seg { start, bytes })
 }
 
+fn segments(alloc: Global, places: &[(u64, u64)]) -> Result<Vec<Seg>, AllocError> {
+    let mut segs = Vec::new(alloc);
+    for (start, pages) in places {
+        segs.push(segment(alloc, *start, *pages)?)?;
+    }
+    Ok(segs)
+}
+
 fn texts(alloc: Global, msgbuf: &[u8]) -> Result<Texts, AllocError> {
     Ok(Texts {
         host: Sequence::new(b"rv".to_vec(alloc)?),
@@ -56,72 +65,97 @@ fn texts(alloc: Global, msgbuf: &[u8]) -> Result<Texts, AllocError> {
     })
 }
 
-fn valid(parts: Parts) -> Result<Image, Fail> {
+// What the machines differ in. A segment has its first address and its pages.
+#[derive(Clone, Copy)]
+struct Machine<'a> {
+    arch: Arch,
+    segs: &'a [(u64, u64)],
+    avail: &'a [(u64, u64)],
+    wanted: &'a [u64],
+    root: u64,
+    windows: Windows,
+    msgbuf: &'a [u8],
+}
+
+fn image_of(alloc: Global, machine: &Machine) -> Result<Image, Fail> {
+    let parts = Parts {
+        arch: machine.arch,
+        segs: Sequence::new(segments(alloc, machine.segs)?),
+        avail: Sequence::new(machine.avail.to_vec(alloc)?),
+        wanted: Sequence::new(machine.wanted.to_vec(alloc)?),
+        root: machine.root,
+        windows: machine.windows,
+        texts: texts(alloc, machine.msgbuf)?,
+    };
     Ok(Image::new(parts).ok().ok_or("a valid image")?)
 }
 
 // One segment, whose page tables are empty, and three wanted pages.
 fn riscv(alloc: Global) -> Result<Image, Fail> {
     let start = 0x8000_0000;
-    valid(Parts {
-        arch: Arch::Riscv,
-        segs: Sequence::new(vec![in alloc; segment(alloc, start, 6)?]?),
-        avail: Sequence::new(vec![in alloc; (start, start + 0x6000)]?),
-        wanted: Sequence::new(vec![in alloc; start + 0x1000, start + 0x2000, start + 0x4000]?),
-        root: start,
-        windows: Windows {
-            kernbase: 0xffff_ffc0_0000_0000,
-            kernspan: 0x20_0000,
-            dmapbase: 0xffff_ffd0_0000_0000,
-            dmapend: 0xffff_ffd0_0000_6000,
-            dmapphys: start,
+    image_of(
+        alloc,
+        &Machine {
+            arch: Arch::Riscv,
+            segs: &[(start, 6)],
+            avail: &[(start, start + 0x6000)],
+            wanted: &[start + 0x1000, start + 0x2000, start + 0x4000],
+            root: start,
+            windows: Windows {
+                kernbase: 0xffff_ffc0_0000_0000,
+                kernspan: 0x20_0000,
+                dmapbase: 0xffff_ffd0_0000_0000,
+                dmapend: 0xffff_ffd0_0000_6000,
+                dmapphys: start,
+            },
+            msgbuf: b"panic: test\n",
         },
-        texts: texts(alloc, b"panic: test\n")?,
-    })
+    )
 }
 
 // A leaf of 1 GiB, a last-level table, and a page that is mapped and not available.
 fn amd64(alloc: Global) -> Result<Image, Fail> {
-    let segs = vec![in alloc;
-        segment(alloc, 0x10_0000, 6)?,
-        segment(alloc, 0x401f_f000, 2)?,
-        segment(alloc, 0x6000_0000, 1)?,
-    ]?;
-    valid(Parts {
-        arch: Arch::Amd64,
-        segs: Sequence::new(segs),
-        avail: Sequence::new(vec![in alloc; (0x10_0000, 0x10_6000), (0x401f_f000, 0x4020_1000)]?),
-        wanted: Sequence::new(vec![in alloc; 0x10_0000]?),
-        root: 0x10_0000,
-        windows: Windows {
-            kernbase: 0xffff_fe00_0000_0000,
-            kernspan: 0x8000_0000,
-            dmapbase: 0xffff_f800_0000_0000,
-            dmapend: 0xffff_f800_8000_0000,
-            dmapphys: 0,
+    image_of(
+        alloc,
+        &Machine {
+            arch: Arch::Amd64,
+            segs: &[(0x10_0000, 6), (0x401f_f000, 2), (0x6000_0000, 1)],
+            avail: &[(0x10_0000, 0x10_6000), (0x401f_f000, 0x4020_1000)],
+            wanted: &[0x10_0000],
+            root: 0x10_0000,
+            windows: Windows {
+                kernbase: 0xffff_fe00_0000_0000,
+                kernspan: 0x8000_0000,
+                dmapbase: 0xffff_f800_0000_0000,
+                dmapend: 0xffff_f800_8000_0000,
+                dmapphys: 0,
+            },
+            msgbuf: b"",
         },
-        texts: texts(alloc, b"")?,
-    })
+    )
 }
 
 // Two wanted pages, of which the direct map reaches one.
 fn arm64(alloc: Global) -> Result<Image, Fail> {
     let start = 0x8000_0000;
-    valid(Parts {
-        arch: Arch::Arm64,
-        segs: Sequence::new(vec![in alloc; segment(alloc, start, 3)?]?),
-        avail: Sequence::new(vec![in alloc; (start, start + 0x3000)]?),
-        wanted: Sequence::new(vec![in alloc; start + 0x1000, start + 0x2000]?),
-        root: start,
-        windows: Windows {
-            kernbase: 0xffff_0000_0000_0000,
-            kernspan: 0x40_0000,
-            dmapbase: 0xffff_a000_0000_0000,
-            dmapend: 0xffff_a000_0000_2000,
-            dmapphys: start,
+    image_of(
+        alloc,
+        &Machine {
+            arch: Arch::Arm64,
+            segs: &[(start, 3)],
+            avail: &[(start, start + 0x3000)],
+            wanted: &[start + 0x1000, start + 0x2000],
+            root: start,
+            windows: Windows {
+                kernbase: 0xffff_0000_0000_0000,
+                kernspan: 0x40_0000,
+                dmapbase: 0xffff_a000_0000_0000,
+                dmapend: 0xffff_a000_0000_2000,
+                dmapphys: start,
+            },
+            msgbuf: b"",
         },
-        texts: texts(alloc, b"")?,
-    })
+    )
 }
 
 // The minidump, put together from its pieces.
@@ -144,85 +178,88 @@ fn bytes_at(dump: &[u8], at: usize, count: usize) -> &[u8] {
     &dump[at..at + count]
 }
 
-#[test]
-fn sections_stand_in_order(rt: HostRuntime) -> Result<(), Fail> {
-    let image = riscv(rt.alloc())?;
-    let dump = dump_of(rt.alloc(), &image)?;
-    assert_eq!(rt; dump.len(), 32768);
+// The words of a minidump at some places, and its length.
+fn check_words(
+    rt: &impl Abort,
+    alloc: Global,
+    image: &Image,
+    length: usize,
+    words: &[(usize, u64)],
+) -> Result<(), Fail> {
+    let dump = dump_of(alloc, image)?;
+    assert_eq!(rt; dump.len(), length);
+    for (at, word) in words {
+        assert_eq!(rt;
+            bytes_at(dump.as_slice(), *at, 8),
+            word.to_le_bytes().as_slice(),
+            "at {at}"
+        );
+    }
+    Ok(())
+}
+
+// The sizes in the header page, and the message buffer.
+fn check_front(rt: &impl Abort, alloc: Global, image: &Image) -> Result<(), Fail> {
+    let dump = dump_of(alloc, image)?;
     let sizes: [u8; 16] = [2, 0, 0, 0, 12, 0, 0, 0, 0, 16, 0, 0, 0, 16, 0, 0];
     assert_eq!(rt; bytes_at(dump.as_slice(), 24, 16), sizes.as_slice());
     assert_eq!(rt;
         bytes_at(dump.as_slice(), 4096, 13),
         b"panic: test\n\0".as_slice()
     );
-    for (at, word) in [
-        (8192, 0x8000_0000u64),
-        (8200, 0x8000_6000),
-        (8208, 0),
-        (8216, 0),
-        (12288, 0x16),
-        (16384, 0),
-        (20480, 0x8000_1000),
-        (24576, 0x8000_2000),
-        (28672, 0x8000_4000),
-        (32760, 0x8000_4ff8),
-    ] {
-        assert_eq!(rt;
-            bytes_at(dump.as_slice(), at, 8),
-            word.to_le_bytes().as_slice(),
-            "at {at}"
-        );
-    }
     Ok(())
 }
+
+const RISCV_WORDS: [(usize, u64); 10] = [
+    (8192, 0x8000_0000),
+    (8200, 0x8000_6000),
+    (8208, 0),
+    (8216, 0),
+    (12288, 0x16),
+    (16384, 0),
+    (20480, 0x8000_1000),
+    (24576, 0x8000_2000),
+    (28672, 0x8000_4000),
+    (32760, 0x8000_4ff8),
+];
+
+#[test]
+fn sections_stand_in_order(rt: HostRuntime) -> Result<(), Fail> {
+    let image = riscv(rt.alloc())?;
+    check_front(&rt, rt.alloc(), &image)?;
+    check_words(&rt, rt.alloc(), &image, 32768, &RISCV_WORDS)
+}
+
+const AMD64_WORDS: [(usize, u64); 11] = [
+    (4096, 0x10_0000),
+    (8192, 0xf9),
+    (12288, 0x4000_0083),
+    (12296, 0x4020_0083),
+    (16376, 0x7fe0_0083),
+    (16384, 0x10_3003),
+    (16392, 0x6000_0003),
+    (24576, 0x10_4003),
+    (32768, 0x10_5000),
+    (36864, 0x401f_f000),
+    (40960, 0x4020_0000),
+];
 
 #[test]
 fn leaves_and_last_level_tables_are_dumped(rt: HostRuntime) -> Result<(), Fail> {
     let image = amd64(rt.alloc())?;
-    let dump = dump_of(rt.alloc(), &image)?;
-    assert_eq!(rt; dump.len(), 45056);
-    for (at, word) in [
-        (4096, 0x10_0000u64),
-        (8192, 0xf9),
-        (12288, 0x4000_0083),
-        (12296, 0x4020_0083),
-        (16376, 0x7fe0_0083),
-        (16384, 0x10_3003),
-        (16392, 0x6000_0003),
-        (24576, 0x10_4003),
-        (32768, 0x10_5000),
-        (36864, 0x401f_f000),
-        (40960, 0x4020_0000),
-    ] {
-        assert_eq!(rt;
-            bytes_at(dump.as_slice(), at, 8),
-            word.to_le_bytes().as_slice(),
-            "at {at}"
-        );
-    }
-    Ok(())
+    check_words(&rt, rt.alloc(), &image, 45056, &AMD64_WORDS)
 }
 
 #[test]
 fn pages_outside_the_direct_map_are_left_out(rt: HostRuntime) -> Result<(), Fail> {
     let image = arm64(rt.alloc())?;
-    let dump = dump_of(rt.alloc(), &image)?;
-    assert_eq!(rt; dump.len(), 24576);
-    for (at, word) in [(8192, 2u64), (20480, 0x8000_1000)] {
-        assert_eq!(rt;
-            bytes_at(dump.as_slice(), at, 8),
-            word.to_le_bytes().as_slice(),
-            "at {at}"
-        );
-    }
-    Ok(())
+    let words = [(8192, 2), (20480, 0x8000_1000)];
+    check_words(&rt, rt.alloc(), &image, 24576, &words)
 }
 
-#[test]
-fn the_header_tells_of_the_dump(rt: HostRuntime) -> Result<(), Fail> {
-    let image = riscv(rt.alloc())?;
-    let plan = Plan::prepare(rt.alloc(), &image)?;
-    let header = plan.header(&image, 512);
+fn check_header(rt: &impl Abort, alloc: Global, image: &Image) -> Result<(), Fail> {
+    let plan = Plan::prepare(alloc, image)?;
+    let header = plan.header(image, 512);
     assert_eq!(rt; (header.dumplength, header.dumpextent), (32768, 32768));
     assert_eq!(rt; (header.dumptime, header.blocksize), (1_700_000_000, 512));
     assert_eq!(rt; header.architecture.bytes(), b"riscv64".as_slice());
@@ -230,4 +267,10 @@ fn the_header_tells_of_the_dump(rt: HostRuntime) -> Result<(), Fail> {
     assert_eq!(rt; header.versionstring.bytes(), b"FreeBSD 14".as_slice());
     assert_eq!(rt; header.panicstring.bytes(), b"test".as_slice());
     Ok(())
+}
+
+#[test]
+fn the_header_tells_of_the_dump(rt: HostRuntime) -> Result<(), Fail> {
+    let image = riscv(rt.alloc())?;
+    check_header(&rt, rt.alloc(), &image)
 }

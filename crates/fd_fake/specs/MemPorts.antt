@@ -1,5 +1,5 @@
 -- The ports of a server in memory: what their script brings, and what was asked of them.
-use Rattle.std.specs.Prelude.{ℕ, ◌≤◌, List, map, take}
+use Rattle.std.specs.Prelude.{◌≤◌, List, map, take}
 use Rattle.fd_site.specs.Trace as trace
 use Rattle.fd_fake.specs.declared.ports_event.PortsEvent.{PortsEvent}
 use Rattle.fd_fake.specs.declared.ports_event.PortsEvent.TheVariants.{Listening, SlotOpened, Taken, NoneTaken, Answered}

@@ -1,7 +1,7 @@
 -- A link or a set of ports in memory: a script that is played, and what was asked.
 use Rattle.std.specs.Prelude.{◌≡◌, List, [], ◌∷◌, ◌++◌, drop, Some}
 use Rattle.fd_site.specs.Seen.{Watched}
-use Rattle.fd_fake.specs.Calls.{CallCount, IsFailedCall, after_call, no_calls}
+use Rattle.fd_fake.specs.Calls.{CallCount, IsFailedCall, after_call}
 
 -- what each of the next looks brings, what was asked so far, and the calls so far
 pub record Played (E : Type 0) : Type 0 where

@@ -44,6 +44,19 @@ impl<'a, S: Site> StopSite<'a, S> {
         self.faults > 0 && !self.inner_failed
     }
 
+    // What a call of the inner site answered, and that it failed.
+    fn noted<T>(&mut self, answer: Result<T, Failed>) -> Result<T, Failed>
+        ensures answer { result ≡ answer }
+        ensures inner { inner_of self.new ≡ inner_of self.old }
+        ensures ok_state { OnOk answer (state_of self.new ≡ state_of self.old) }
+        ensures err_state { OnErr answer (state_of self.new ≡ record (state_of self.old) { inner_failed = true }) }
+    {
+        if answer.is_err() {
+            self.inner_failed = true;
+        }
+        answer
+    }
+
     // Passes a write on.
     fn pass(&mut self, at: u64, bytes: &[u8]) -> Result<(), Failed>
         requires { IsSectors at (length bytes.now) (S.seen (inner_of self.old)).size }
@@ -54,13 +67,8 @@ impl<'a, S: Site> StopSite<'a, S> {
         ensures ok_state { OnOk result (state_of self.new ≡ state_of self.old) }
         ensures err_state { OnErr result (state_of self.new ≡ record (state_of self.old) { inner_failed = true }) }
     {
-        match self.inner.write_part(at, bytes) {
-            Ok(()) => Ok(()),
-            Err(failed) => {
-                self.inner_failed = true;
-                Err(failed)
-            }
-        }
+        let answer = self.inner.write_part(at, bytes);
+        self.noted(answer)
     }
 
     // Fails a write itself.
@@ -92,13 +100,8 @@ impl<'a, S: Site> Site for StopSite<'a, S> {
         ensures ok_state { OnOk result (state_of self.new ≡ state_of self.old) }
         ensures err_state { OnErr result (state_of self.new ≡ record (state_of self.old) { inner_failed = true }) }
     {
-        match self.inner.read_part(at, out) {
-            Ok(()) => Ok(()),
-            Err(failed) => {
-                self.inner_failed = true;
-                Err(failed)
-            }
-        }
+        let answer = self.inner.read_part(at, out);
+        self.noted(answer)
     }
 
     #[tactic(auto, using(crate::proofs::Stopped::adds_first, crate::proofs::Stopped::adds_of_first, fd_site::proofs::Told::adds_no_part))]
@@ -133,13 +136,8 @@ impl<'a, S: Site> Site for StopSite<'a, S> {
         ensures ok_state { OnOk result (state_of self.new ≡ state_of self.old) }
         ensures err_state { OnErr result (state_of self.new ≡ record (state_of self.old) { inner_failed = true }) }
     {
-        match self.inner.file_len(name) {
-            Ok(len) => Ok(len),
-            Err(failed) => {
-                self.inner_failed = true;
-                Err(failed)
-            }
-        }
+        let answer = self.inner.file_len(name);
+        self.noted(answer)
     }
 
     fn read_file(&mut self, name: &str, at: u64, out: &mut [u8]) -> Result<(), Failed>
@@ -151,13 +149,8 @@ impl<'a, S: Site> Site for StopSite<'a, S> {
         ensures ok_state { OnOk result (state_of self.new ≡ state_of self.old) }
         ensures err_state { OnErr result (state_of self.new ≡ record (state_of self.old) { inner_failed = true }) }
     {
-        match self.inner.read_file(name, at, out) {
-            Ok(()) => Ok(()),
-            Err(failed) => {
-                self.inner_failed = true;
-                Err(failed)
-            }
-        }
+        let answer = self.inner.read_file(name, at, out);
+        self.noted(answer)
     }
 
     fn create(&mut self, name: &str) -> Result<(), Failed>
@@ -169,13 +162,8 @@ impl<'a, S: Site> Site for StopSite<'a, S> {
         ensures ok_state { OnOk result (state_of self.new ≡ state_of self.old) }
         ensures err_state { OnErr result (state_of self.new ≡ record (state_of self.old) { inner_failed = true }) }
     {
-        match self.inner.create(name) {
-            Ok(()) => Ok(()),
-            Err(failed) => {
-                self.inner_failed = true;
-                Err(failed)
-            }
-        }
+        let answer = self.inner.create(name);
+        self.noted(answer)
     }
 
     fn write_file(&mut self, name: &str, at: u64, bytes: &[u8]) -> Result<(), Failed>
@@ -188,13 +176,8 @@ impl<'a, S: Site> Site for StopSite<'a, S> {
         ensures ok_state { OnOk result (state_of self.new ≡ state_of self.old) }
         ensures err_state { OnErr result (state_of self.new ≡ record (state_of self.old) { inner_failed = true }) }
     {
-        match self.inner.write_file(name, at, bytes) {
-            Ok(()) => Ok(()),
-            Err(failed) => {
-                self.inner_failed = true;
-                Err(failed)
-            }
-        }
+        let answer = self.inner.write_file(name, at, bytes);
+        self.noted(answer)
     }
 
     fn sync_file(&mut self, name: &str) -> Result<(), Failed>
@@ -207,13 +190,8 @@ impl<'a, S: Site> Site for StopSite<'a, S> {
         ensures ok_state { OnOk result (state_of self.new ≡ state_of self.old) }
         ensures err_state { OnErr result (state_of self.new ≡ record (state_of self.old) { inner_failed = true }) }
     {
-        match self.inner.sync_file(name) {
-            Ok(()) => Ok(()),
-            Err(failed) => {
-                self.inner_failed = true;
-                Err(failed)
-            }
-        }
+        let answer = self.inner.sync_file(name);
+        self.noted(answer)
     }
 
     ghost told_size = { λ s c is. S.told_size (inner_of s) c is };

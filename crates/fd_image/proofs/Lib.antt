@@ -1,3 +1,4 @@
+-- The proofs that other files cite.
 pub mod Pages
 pub mod Places
 pub mod Segments

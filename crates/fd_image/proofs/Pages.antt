@@ -1,4 +1,4 @@
--- A segment of whole pages has the whole page, and the whole word, of each of its addresses.
+-- A segment of whole pages has the whole page of each of its addresses.
 use Rattle.std.proofs.Common.{◌≡◌, ℕ, ◌+◌, ◌-◌, ◌%◌, ◌<◌, ◌≤◌, arith}
 
 module _ (start len pa : ℕ) (start_aligned : start % 4096 ≡ 0) (len_aligned : len % 4096 ≡ 0) (from_start : start ≤ pa) (to_end : pa < start + len) where
@@ -7,6 +7,3 @@ module _ (start len pa : ℕ) (start_aligned : start % 4096 ≡ 0) (len_aligned 
 
   pub page_ends : pa - pa % 4096 - start + 4096 ≤ len
   page_ends = omega arith
-
-  pub word_ends : pa % 8 ≡ 0 → pa - start + 8 ≤ len
-  word_ends aligned = omega arith

@@ -1,5 +1,6 @@
 -- The segment of an address, among segments in the order of their addresses.
-use Rattle.std.proofs.Common.{◌≡◌, ◌∙◌, ℕ, zero, suc, ◌+◌, ◌-◌, ◌<◌, ◌≤◌, Bool, true, false, find, List, [], ◌∷◌, length, map, get_or, Some, None, refl, ap, sym, arith, inl, inr}
+use Rattle.std.proofs.Common.{◌≡◌, ◌∙◌, ℕ, zero, suc, ◌+◌, ◌-◌, ◌<◌, ◌≤◌, Bool, true, false, find, List}
+use Rattle.std.proofs.Common.{[], ◌∷◌, length, get_or, Some, None, refl, ap, sym, arith, inl, inr}
 use Rattle.std.specs.List.Sorted.{IsNonDecreasingBy, IsPartitionPoint, IsPartitionedBy}
 use Rattle.std.specs.Fn.{Called, ComputesKey}
 use Rattle.std.proofs.Math.Dec.{leb}

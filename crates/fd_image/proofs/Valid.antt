@@ -1,10 +1,13 @@
 -- What the validity of an image says of each of its fields.
-use Rattle.std.proofs.Common.{◌≡◌, ℕ, suc, ◌<◌, ◌≤◌, Bool, true, false, not, cond, find, List, [], ◌∷◌, length, get_or, Option, Some, None, Bor, IsTrue, IfSome, ap, sym, ◌∙◌, refl, arith, ◌%◌, min, max}
+use Rattle.std.proofs.Common.{◌≡◌, ℕ, suc, ◌<◌, ◌≤◌, Bool, true, false, not, cond, find, List, [], ◌∷◌, length}
+use Rattle.std.proofs.Common.{get_or, Option, Some, None, Bor, IsTrue, IfSome, ap, sym, ◌∙◌, refl, arith, ◌%◌, min, max}
 use Rattle.std.specs.List.{position_or_len}
 use Rattle.std.specs.Option.{option_copied}
 use Rattle.std.proofs.lemmas.List.Sums.{fails_before_first}
 use Rattle.std.proofs.lemmas.Bool.Decides.{nat_tests}
-use Rattle.fd_image.specs.Image.{MachineImage, first_failing, missing_segment, ragged_segment, segment_out_of_order, segment_past_end, is_whole_pages, unless, is_within_limits, ragged_pair, pair_out_of_order, pair_outside, bad_wanted_page, bad_root, is_kernel_window, is_in_kernel_space, is_direct_map, are_apart, breaches, first_breach, broken_rule, IsValid, is_page_aligned, kernel_end}
+use Rattle.fd_image.specs.Image.{MachineImage, first_failing, missing_segment, ragged_segment, segment_out_of_order, segment_past_end, is_whole_pages, unless}
+use Rattle.fd_image.specs.Image.{is_within_limits, ragged_pair, pair_out_of_order, pair_outside, bad_wanted_page, bad_root, is_kernel_window, is_in_kernel_space}
+use Rattle.fd_image.specs.Image.{is_direct_map, are_apart, breaches, first_breach, broken_rule, IsValid, is_page_aligned, kernel_end}
 use Rattle.fd_image.specs.Physical.{has_address, segment_of}
 use Rattle.fd_image.specs.declared.parts.Seg.{Seg}
 
@@ -76,12 +79,14 @@ passes test xs none k within d =
     by_not false e = cc
 
 -- an item that was found has what it was looked for by, and what each item has
-pub found : {X : Type 0} (wanted test : X → Bool) (xs : List X) (x : X) → find wanted xs ≡ Some x → ((k : ℕ) → k < length xs → (d : X) → test (get_or xs k d) ≡ true) → (wanted x ≡ true) × (test x ≡ true)
+pub found : {X : Type 0} (wanted test : X → Bool) (xs : List X) (x : X) → find wanted xs ≡ Some x
+    → ((k : ℕ) → k < length xs → (d : X) → test (get_or xs k d) ≡ true) → (wanted x ≡ true) × (test x ≡ true)
 found wanted test [] x e all = absurd cc
 found {X = X} wanted test (y ∷ ys) x e all =
     here (wanted y) refl e (λ rest. found wanted test ys x rest (λ k within d. all (suc k) (omega arith) d))
   where
-    here : (b : Bool) → wanted y ≡ b → cond b (Some y) (find wanted ys) ≡ Some x → (find wanted ys ≡ Some x → (wanted x ≡ true) × (test x ≡ true)) → (wanted x ≡ true) × (test x ≡ true)
+    here : (b : Bool) → wanted y ≡ b → cond b (Some y) (find wanted ys) ≡ Some x
+        → (find wanted ys ≡ Some x → (wanted x ≡ true) × (test x ≡ true)) → (wanted x ≡ true) × (test x ≡ true)
     here true is e later = let same : y ≡ x = cc in (ap wanted (sym same) ∙ is, ap test (sym same) ∙ all 0 (omega arith) y)
     here false is e later = later e
 

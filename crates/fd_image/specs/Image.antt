@@ -1,5 +1,6 @@
 -- The machine image and the fourteen rules of a valid one. Both are this project's own format.
-use Rattle.std.specs.Prelude.{ℕ, suc, ◌+◌, ◌-◌, ◌%◌, ◌^◌, ◌<◌, ◌≡◌, min, max, Bool, not, ◌&&◌, ◌||◌, ◌==◌, nat_lt, nat_le, if◌then◌else◌, List, [], ◌∷◌, length, map, position, zip, sum_by, All, Option, Some, None}
+use Rattle.std.specs.Prelude.{ℕ, suc, ◌+◌, ◌-◌, ◌%◌, ◌^◌, ◌<◌, ◌≡◌, min, max, Bool, not, ◌&&◌, ◌||◌, ◌==◌}
+use Rattle.std.specs.Prelude.{nat_lt, nat_le, if◌then◌else◌, List, [], ◌∷◌, length, map, position, zip, sum_by, All, Option, Some, None}
 use Rattle.std.specs.List.{list_any}
 use Rattle.fd_bytes.specs.declared.arch.Arch.{Arch}
 use Rattle.fd_bytes.specs.Profile.{profile_of}
@@ -127,7 +128,8 @@ bad_root root = unless (is_page_aligned root)
 -- within its limit; the window ends at 2^64 or below
 abbrev pub is_kernel_window : Arch → Windows → Bool
 is_kernel_window arch w =
-    is_multiple (profile_of arch).window_unit w.kernbase && is_multiple (profile_of arch).window_unit w.kernspan && not (w.kernspan == 0) && nat_le w.kernspan (profile_of arch).window_limit && nat_le (kernel_end w) (2 ^ 64)
+    is_multiple (profile_of arch).window_unit w.kernbase && is_multiple (profile_of arch).window_unit w.kernspan && not (w.kernspan == 0)
+    && nat_le w.kernspan (profile_of arch).window_limit && nat_le (kernel_end w) (2 ^ 64)
 
 -- 12: the kernel window begins at or after the first kernel address
 abbrev pub is_in_kernel_space : MachineImage → Bool
@@ -137,7 +139,8 @@ is_in_kernel_space m = nat_le (kernel_start_of m) m.windows.kernbase
 -- architecture says so, and reaches no physical address past their end
 abbrev pub is_direct_map : Arch → Windows → Bool
 is_direct_map arch w =
-    is_page_aligned w.dmapbase && is_page_aligned w.dmapend && is_page_aligned w.dmapphys && nat_le w.dmapbase w.dmapend && ((profile_of arch).shifts_direct_map || (w.dmapphys == 0)) && nat_le (direct_map_end w) (profile_of arch).physical_end
+    is_page_aligned w.dmapbase && is_page_aligned w.dmapend && is_page_aligned w.dmapphys && nat_le w.dmapbase w.dmapend
+    && ((profile_of arch).shifts_direct_map || (w.dmapphys == 0)) && nat_le (direct_map_end w) (profile_of arch).physical_end
 
 -- 14: the kernel window and the direct map have no address in common: the later start isn't below the earlier end
 abbrev pub are_apart : Windows → Bool
@@ -146,7 +149,10 @@ are_apart w = nat_le (min (kernel_end w) w.dmapend) (max w.kernbase w.dmapbase)
 -- the least place that breaks each rule, in the order of the rules
 unfoldable pub breaches : MachineImage → List (Option ℕ)
 breaches m =
-    missing_segment m.segs ∷ ragged_segment m.segs ∷ segment_out_of_order m.segs ∷ segment_past_end m.arch m.segs ∷ unless (is_within_limits m) ∷ ragged_pair m.avail ∷ pair_out_of_order m.avail ∷ pair_outside m.segs m.avail ∷ bad_wanted_page m.wanted ∷ bad_root m.root ∷ unless (is_kernel_window m.arch m.windows) ∷ unless (is_in_kernel_space m) ∷ unless (is_direct_map m.arch m.windows) ∷ unless (are_apart m.windows) ∷ []
+    missing_segment m.segs ∷ ragged_segment m.segs ∷ segment_out_of_order m.segs ∷ segment_past_end m.arch m.segs
+    ∷ unless (is_within_limits m) ∷ ragged_pair m.avail ∷ pair_out_of_order m.avail ∷ pair_outside m.segs m.avail
+    ∷ bad_wanted_page m.wanted ∷ bad_root m.root ∷ unless (is_kernel_window m.arch m.windows) ∷ unless (is_in_kernel_space m)
+    ∷ unless (is_direct_map m.arch m.windows) ∷ unless (are_apart m.windows) ∷ []
 
 -- the first rule with a place, where the rules are numbered from this number on
 abbrev pub first_breach : ℕ → List (Option ℕ) → Option BadImage

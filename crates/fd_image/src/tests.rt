@@ -2,6 +2,7 @@
 use crate::{BadImage, Image, Memory, Parts, Seg, Sequence, Texts, Windows};
 use fd_bytes::Arch;
 use std::alloc::{AllocError, Global};
+use std::process::Abort;
 use std::test::Fail;
 
 const START: u64 = 0x8000_0000;
@@ -54,17 +55,24 @@ fn segs_breaking(alloc: Global, rule: u8) -> Result<Sequence<Seg>, AllocError> {
     Ok(Sequence::new(segs))
 }
 
-fn avail_breaking(alloc: Global, rule: u8) -> Result<Sequence<(u64, u64)>, AllocError> {
-    if rule == 5 {
-        return Ok(Sequence::new(vec![in alloc; (START, START + 0x3000); 1025]?));
-    }
-    let second = match rule {
+fn too_many_pairs(alloc: Global) -> Result<Sequence<(u64, u64)>, AllocError> {
+    Ok(Sequence::new(vec![in alloc; (START, START + 0x3000); 1025]?))
+}
+
+fn second_pair(rule: u8) -> (u64, u64) {
+    match rule {
         6 => (START + 0x4000, START + 0x4000),
         7 => (START + 0x2000, START + 0x6000),
         8 => (START + 0x4000, START + 0x7000),
         _ => (START + 0x3000, START + 0x6000),
-    };
-    Ok(Sequence::new(vec![in alloc; (START, START + 0x3000), second]?))
+    }
+}
+
+fn avail_breaking(alloc: Global, rule: u8) -> Result<Sequence<(u64, u64)>, AllocError> {
+    if rule == 5 {
+        return too_many_pairs(alloc);
+    }
+    Ok(Sequence::new(vec![in alloc; (START, START + 0x3000), second_pair(rule)]?))
 }
 
 fn wanted_breaking(alloc: Global, rule: u8) -> Result<Sequence<u64>, AllocError> {
@@ -114,20 +122,37 @@ fn small_image(alloc: Global) -> Result<Image, Fail> {
     )
 }
 
+// What the image is refused for that breaks this rule.
+fn refusal(alloc: Global, rule: u8) -> Result<Option<BadImage>, AllocError> {
+    let parts = image_breaking(alloc, rule)?;
+    Ok(Image::new(parts).err())
+}
+
 #[test]
 fn each_rule_is_refused_at_its_least_place(rt: HostRuntime) -> Result<(), Fail> {
-    let places = [0, 1, 1, 1, 0, 1, 1, 1, 2, 0, 0, 0, 0, 0];
-    for (rule, place) in (1..=14).zip(places) {
-        let parts = image_breaking(rt.alloc(), rule)?;
-        let bad = Image::new(parts).err();
+    for (rule, place) in [
+        (1, 0),
+        (2, 1),
+        (3, 1),
+        (4, 1),
+        (5, 0),
+        (6, 1),
+        (7, 1),
+        (8, 1),
+        (9, 2),
+        (10, 0),
+        (11, 0),
+        (12, 0),
+        (13, 0),
+        (14, 0),
+    ] {
+        let bad = refusal(rt.alloc(), rule)?;
         assert_eq!(rt; bad, Some(BadImage { rule, place }), "rule {rule}");
     }
     Ok(())
 }
 
-#[test]
-fn a_valid_image_lends_its_words_and_pages(rt: HostRuntime) -> Result<(), Fail> {
-    let image = small_image(rt.alloc())?;
+fn lends_its_words(rt: &impl Abort, image: &Image) {
     let words = [
         (START, Some(0)),
         (START + 0x1008, Some(START + 0x1008)),
@@ -139,6 +164,9 @@ fn a_valid_image_lends_its_words_and_pages(rt: HostRuntime) -> Result<(), Fail> 
     for (pa, word) in words {
         assert_eq!(rt; image.word(pa), word, "at {pa:x}");
     }
+}
+
+fn lends_its_pages(rt: &impl Abort, image: &Image) -> Result<(), Fail> {
     let page = image.page(START + 0x2fff).ok_or("a page")?;
     assert_eq!(rt; page.len(), 4096);
     assert_eq!(rt; &page[..8], [0, 0x20, 0, 0x80, 0, 0, 0, 0].as_slice());
@@ -149,17 +177,33 @@ fn a_valid_image_lends_its_words_and_pages(rt: HostRuntime) -> Result<(), Fail> 
 }
 
 #[test]
-fn a_valid_image_gives_its_parts(rt: HostRuntime) -> Result<(), Fail> {
+fn a_valid_image_lends_its_words_and_pages(rt: HostRuntime) -> Result<(), Fail> {
     let image = small_image(rt.alloc())?;
-    assert_eq!(rt; image.arch(), Arch::Riscv);
+    lends_its_words(&rt, &image);
+    lends_its_pages(&rt, &image)
+}
+
+fn has_its_ranges(rt: &impl Abort, image: &Image) {
     assert_eq!(rt; image.segs().len(), 1);
     assert_eq!(rt;
         image.avail(),
         [(START, START + 0x3000), (START + 0x3000, START + 0x6000)].as_slice()
     );
     assert_eq!(rt; image.wanted().len(), 3);
+}
+
+fn has_its_numbers(rt: &impl Abort, image: &Image) {
+    assert_eq!(rt; image.arch(), Arch::Riscv);
+    assert_eq!(rt; image.levels(), 3);
     assert_eq!(rt; image.root(), START);
     assert_eq!(rt; image.windows().dmapphys, START);
     assert_eq!(rt; image.texts().time, 1_700_000_000);
+}
+
+#[test]
+fn a_valid_image_gives_its_parts(rt: HostRuntime) -> Result<(), Fail> {
+    let image = small_image(rt.alloc())?;
+    has_its_ranges(&rt, &image);
+    has_its_numbers(&rt, &image);
     Ok(())
 }

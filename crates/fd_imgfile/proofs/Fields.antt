@@ -1,5 +1,6 @@
 -- The fields of an image's file are spelled in its first 112 bytes.
-use Rattle.std.proofs.Common.{◌≡◌, ℕ, ◌<◌, ◌≤◌, Bool, true, false, cond, ◌==◌, nat_lt, nat_le, ◌+◌, ◌^◌, List, [], ◌∷◌, ◌++◌, length, get_or, take, slice_range, Some, None, refl, sym, ◌∙◌, arith}
+use Rattle.std.proofs.Common.{◌≡◌, ℕ, ◌<◌, ◌≤◌, Bool, true, false, cond, ◌==◌, nat_lt, nat_le, ◌+◌, ◌^◌, List, [], ◌∷◌, ◌++◌, length, get_or, take}
+use Rattle.std.proofs.Common.{slice_range, Some, None, refl, sym, ◌∙◌, arith}
 use Rattle.std.proofs.lemmas.Slice.Eq.{bytes_eq-Decides}
 use Rattle.std.proofs.lemmas.Bool.Decides.{nat_tests}
 use Rattle.std.proofs.lemmas.List.Edits.{length-between}
@@ -75,13 +76,44 @@ fields_kept f none =
     }
 
 -- the fields are all of the bytes
-pub fields_spelled : (f : List ℕ) (h : Front) → length f ≡ 112 → slice_range f 0 16 ≡ magic → slice_range f 16 20 ≡ u32 1 → slice_range f 20 24 ≡ u32 (number_of h.arch) → slice_range f 24 28 ≡ u32 h.segs → slice_range f 28 32 ≡ u32 h.avail → slice_range f 32 36 ≡ u32 h.wanted → slice_range f 36 40 ≡ u32 h.host → slice_range f 40 44 ≡ u32 h.version → slice_range f 44 48 ≡ u32 h.panic → slice_range f 48 52 ≡ u32 h.msgbuf → slice_range f 52 56 ≡ u32 0 → slice_range f 56 64 ≡ u64 h.root → slice_range f 64 104 ≡ windows_of h.windows → slice_range f 104 112 ≡ u64 h.time → f ≡ fields_of h
+pub fields_spelled : (f : List ℕ) (h : Front) → length f ≡ 112 → slice_range f 0 16 ≡ magic → slice_range f 16 20 ≡ u32 1 → slice_range f 20 24 ≡ u32 (number_of h.arch)
+    → slice_range f 24 28 ≡ u32 h.segs → slice_range f 28 32 ≡ u32 h.avail → slice_range f 32 36 ≡ u32 h.wanted → slice_range f 36 40 ≡ u32 h.host → slice_range f 40 44 ≡ u32 h.version
+    → slice_range f 44 48 ≡ u32 h.panic → slice_range f 48 52 ≡ u32 h.msgbuf → slice_range f 52 56 ≡ u32 0 → slice_range f 56 64 ≡ u64 h.root → slice_range f 64 104 ≡ windows_of h.windows
+    → slice_range f 104 112 ≡ u64 h.time → f ≡ fields_of h
 fields_spelled f h len magic_is version arch segs avail wanted host version_text panic msgbuf none root windows time =
-    let cut : f ≡ slice_range f 0 16 ++ slice_range f 16 20 ++ slice_range f 20 24 ++ (slice_range f 24 28 ++ slice_range f 28 32 ++ slice_range f 32 36) ++ (slice_range f 36 40 ++ slice_range f 40 44 ++ slice_range f 44 48 ++ slice_range f 48 52) ++ slice_range f 52 56 ++ slice_range f 56 64 ++ slice_range f 64 104 ++ slice_range f 104 112 = rw (slice-join f 0 16 20 (omega arith) (omega arith), slice-join f 0 20 24 (omega arith) (omega arith), slice-join f 24 28 32 (omega arith) (omega arith), slice-join f 24 32 36 (omega arith) (omega arith), slice-join f 0 24 36 (omega arith) (omega arith), slice-join f 36 40 44 (omega arith) (omega arith), slice-join f 36 44 48 (omega arith) (omega arith), slice-join f 36 48 52 (omega arith) (omega arith), slice-join f 0 36 52 (omega arith) (omega arith), slice-join f 0 52 56 (omega arith) (omega arith), slice-join f 0 56 64 (omega arith) (omega arith), slice-join f 0 64 104 (omega arith) (omega arith), slice-join f 0 104 112 (omega arith) (omega arith)) (sym (slice-all f 112 (omega arith))) in
+    let cut : f ≡ slice_range f 0 16 ++ slice_range f 16 20 ++ slice_range f 20 24 ++ (slice_range f 24 28 ++ slice_range f 28 32 ++ slice_range f 32 36) ++
+    (slice_range f 36 40 ++ slice_range f 40 44 ++ slice_range f 44 48 ++ slice_range f 48 52) ++ slice_range f 52 56 ++ slice_range f 56 64 ++ slice_range f 64 104 ++ slice_range f 104 112 =
+    rw (
+      slice-join f 0 16 20 (omega arith) (omega arith),
+      slice-join f 0 20 24 (omega arith) (omega arith),
+      slice-join f 24 28 32 (omega arith) (omega arith),
+      slice-join f 24 32 36
+          (omega arith) (omega arith),
+      slice-join f 0 24 36 (omega arith) (omega arith),
+      slice-join f 36 40 44 (omega arith) (omega arith),
+      slice-join f 36 44 48 (omega arith)
+          (omega arith),
+      slice-join f 36 48 52 (omega arith) (omega arith),
+      slice-join f 0 36 52 (omega arith) (omega arith),
+      slice-join f 0 52 56 (omega arith)
+          (omega arith),
+      slice-join f 0 56 64 (omega arith) (omega arith),
+      slice-join f 0 64 104 (omega arith) (omega arith),
+      slice-join f 0 104 112 (omega arith) (omega arith),
+    )
+    (sym (slice-all f 112 (omega arith))) in
     cut ∙ rw (magic_is, version, arch, segs, avail, wanted, host, version_text, panic, msgbuf, none, root, windows, time) refl
 
 -- the windows are the five numbers from place 64 on
-pub windows_spelled : (f : List ℕ) (w : Windows) → u64 w.kernbase ≡ slice_range f 64 72 → u64 w.kernspan ≡ slice_range f 72 80 → u64 w.dmapbase ≡ slice_range f 80 88 → u64 w.dmapend ≡ slice_range f 88 96 → u64 w.dmapphys ≡ slice_range f 96 104 → slice_range f 64 104 ≡ windows_of w
+pub windows_spelled : (f : List ℕ) (w : Windows) → u64 w.kernbase ≡ slice_range f 64 72 → u64 w.kernspan ≡ slice_range f 72 80 → u64 w.dmapbase ≡ slice_range f 80 88
+    → u64 w.dmapend ≡ slice_range f 88 96 → u64 w.dmapphys ≡ slice_range f 96 104 → slice_range f 64 104 ≡ windows_of w
 windows_spelled f w base span start end phys =
-    let cut : slice_range f 64 72 ++ slice_range f 72 80 ++ slice_range f 80 88 ++ slice_range f 88 96 ++ slice_range f 96 104 ≡ slice_range f 64 104 = rw (slice-join f 64 72 80 (omega arith) (omega arith), slice-join f 64 80 88 (omega arith) (omega arith), slice-join f 64 88 96 (omega arith) (omega arith), slice-join f 64 96 104 (omega arith) (omega arith)) refl in
+    let cut : slice_range f 64 72 ++ slice_range f 72 80 ++ slice_range f 80 88 ++ slice_range f 88 96 ++ slice_range f 96 104 ≡ slice_range f 64 104 =
+    rw (
+      slice-join f 64 72 80 (omega arith) (omega arith),
+      slice-join f 64 80 88 (omega arith) (omega arith),
+      slice-join f 64 88 96 (omega arith) (omega arith),
+      slice-join f 64 96 104
+          (omega arith) (omega arith),
+    ) refl in
     sym cut ∙ rw (sym base, sym span, sym start, sym end, sym phys) refl

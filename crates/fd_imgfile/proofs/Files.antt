@@ -23,7 +23,8 @@ IsFileAnd-length told name len P known step c is = mapped _ (known c is)
     mapped (Some f) h = step f h
 
 -- what follows from the length and one more fact
-pub IsFileAnd-more : (told : Option Contents) (name : List ℕ) (len : ℕ) (P Q : List ℕ → Type 0) → HasLength told name len → OfFile told name P → ((f : List ℕ) → length f ≡ len → P f → Q f) → IsFileAnd told name Q
+pub IsFileAnd-more : (told : Option Contents) (name : List ℕ) (len : ℕ) (P Q : List ℕ → Type 0) → HasLength told name len → OfFile told name P → ((f : List ℕ) → length f ≡ len → P f → Q f)
+    → IsFileAnd told name Q
 IsFileAnd-more told name len P Q known more step c is = joined _ (λ f. length f ≡ len) P Q step (known c is) (more c is)
 
 -- two facts of the same file

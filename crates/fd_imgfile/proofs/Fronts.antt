@@ -17,7 +17,20 @@ u32_le_at-slice f a b at within =
 front_checks-slice : (f : List ℕ) → front_checks (slice_range f 0 112) ≡ front_checks f
 front_checks-slice f =
     let at : (n : ℕ) → n + 4 ≤ 112 → u32_le_at (slice_range f 0 112) n ≡ u32_le_at f (0 + n) = λ n within. u32_le_at-slice f 0 112 n (omega arith) in
-    rw (at 16 (omega arith), at 20 (omega arith), at 24 (omega arith), at 28 (omega arith), at 32 (omega arith), at 36 (omega arith), at 40 (omega arith), at 44 (omega arith), at 48 (omega arith), at 52 (omega arith), take-take 16 112 f (omega arith)) refl
+    rw (
+      at 16 (omega arith),
+      at 20 (omega arith),
+      at 24 (omega arith),
+      at 28 (omega arith),
+      at 32 (omega arith),
+      at 36 (omega arith),
+      at 40 (omega arith),
+      at 44 (omega arith),
+      at 48
+          (omega arith),
+      at 52 (omega arith),
+      take-take 16 112 f (omega arith),
+    ) refl
 
 -- a file that is too short
 pub short_fault : (f : List ℕ) (len : ℕ) → length f ≡ len → len < 112 → fault_place f ≡ Some len
@@ -38,7 +51,8 @@ field_fault f bytes len place is long read broken =
     let same : first_broken (front_checks f) ≡ Some place = ap first_broken (sym (ap front_checks read ∙ front_checks-slice f)) ∙ broken in
     fault_place-long f (omega arith) ∙ ap (by_front f) same
 
-pub front_is : (f bytes : List ℕ) (h : Front) (len : ℕ) → length f ≡ len → 112 ≤ len → bytes ≡ slice_range f 0 112 → first_broken (front_checks bytes) ≡ None → bytes ≡ fields_of h → IsCounted bytes h → IsFront f h
+pub front_is : (f bytes : List ℕ) (h : Front) (len : ℕ) → length f ≡ len → 112 ≤ len → bytes ≡ slice_range f 0 112 → first_broken (front_checks bytes) ≡ None → bytes ≡ fields_of h
+    → IsCounted bytes h → IsFront f h
 front_is f bytes h len is long read kept spelled counted =
     let at : (n : ℕ) → n + 4 ≤ 112 → u32_le_at f (0 + n) ≡ u32_le_at bytes n = λ n within. sym (ap (λ (l : List ℕ). u32_le_at l n) read ∙ u32_le_at-slice f 0 112 n (omega arith)) in
     record {

@@ -27,7 +27,7 @@ of_valid f m spells = record {
 }
 
 of_broken : (f : List ℕ) (bad : rules.BadImage) → (b : SpellsBroken f bad) → IsJudged f b.image (Some bad)
-of_broken f bad b = record { typed = b.typed; fits = b.fits; is = b.is; no_fault = b.no_fault; broken = b.broken }
+of_broken f bad b = record { typed = b.typed; fits = b.spelled.fits; is = b.spelled.is; no_fault = b.spelled.no_fault; broken = b.broken }
 
 same_image : (f : List ℕ) (m n : MachineImage) (a b : Option rules.BadImage) → IsJudged f m a → IsJudged f n b → m ≡ n
 same_image f m n a b left right = one_spelling m n left.typed right.typed left.fits right.fits (sym left.is ∙ right.is)
@@ -49,7 +49,7 @@ against_place : (f : List ℕ) (place : ℕ) → fault_place f ≡ Some place �
 against_place f place fault (Ok n) read tells = let kept : fault_place f ≡ None = (of_valid f n read).no_fault in absurd (cc (kept, fault))
 against_place f place fault (Err NoFile) read tells = absurd (cc)
 against_place f place fault (Err (NotImage other)) read tells = let same : Some place ≡ Some other = sym fault ∙ read in cc same
-against_place f place fault (Err (BadImage bad)) read tells = let kept : fault_place f ≡ None = read.no_fault in absurd (cc (kept, fault))
+against_place f place fault (Err (BadImage bad)) read tells = let kept : fault_place f ≡ None = read.spelled.no_fault in absurd (cc (kept, fault))
 against_place f place fault (Err SiteFault) read tells = absurd tells
 against_place f place fault (Err NoMemory) read tells = absurd tells
 
@@ -57,8 +57,9 @@ against_place f place fault (Err NoMemory) read tells = absurd tells
 against_rule : (f : List ℕ) (bad : rules.BadImage) → SpellsBroken f bad → (s : Result MachineImage ImageFault) → IsReading (Some f) s → TellsOfFile s → Err (BadImage bad) ≡ s
 against_rule f bad broken (Ok n) read tells = let rule : Some bad ≡ None = same_rule f broken.image n (Some bad) None (of_broken f bad broken) (of_valid f n read) in absurd (cc rule)
 against_rule f bad broken (Err NoFile) read tells = absurd (cc)
-against_rule f bad broken (Err (NotImage place)) read tells = let kept : fault_place f ≡ None = broken.no_fault in absurd (cc (kept, read))
-against_rule f bad broken (Err (BadImage other)) read tells = let rule : Some bad ≡ Some other = same_rule f broken.image read.image (Some bad) (Some other) (of_broken f bad broken) (of_broken f other read) in cc rule
+against_rule f bad broken (Err (NotImage place)) read tells = let kept : fault_place f ≡ None = broken.spelled.no_fault in absurd (cc (kept, read))
+against_rule f bad broken (Err (BadImage other)) read tells = let rule : Some bad ≡ Some other = same_rule f broken.image read.image (Some bad) (Some other) (of_broken f bad broken)
+    (of_broken f other read) in cc rule
 against_rule f bad broken (Err SiteFault) read tells = absurd tells
 against_rule f bad broken (Err NoMemory) read tells = absurd tells
 

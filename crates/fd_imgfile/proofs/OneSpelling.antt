@@ -17,7 +17,11 @@ use Rattle.fd_imgfile.specs.Spelling.{FitsFields, avail_bytes, front_of, memory_
 
 -- where the same list is cut at the same place
 pub same_parts : (a b c d : List ℕ) → length a ≡ length b → a ++ c ≡ b ++ d → (a ≡ b) × (c ≡ d)
-same_parts a b c d len same = (sym (take_at a c (length b) len) ∙ (ap (take (length b)) same ∙ take_at b d (length b) refl), sym (drop_at a c (length b) len) ∙ (ap (drop (length b)) same ∙ drop_at b d (length b) refl))
+same_parts a b c d len same = (
+  sym (take_at a c (length b) len) ∙ (ap (take (length b)) same ∙ take_at b d (length b) refl),
+  sym (drop_at a c (length b) len) ∙
+      (ap (drop (length b)) same ∙ drop_at b d (length b) refl),
+)
 
 -- a number has one spelling
 same_u64 : (m n : ℕ) → m < 2 ^ 64 → n < 2 ^ 64 → u64 m ≡ u64 n → m ≡ n
@@ -59,7 +63,8 @@ same_pairs [] [] len fits_x fits_y same = refl
 same_pairs [] (y ∷ ys) len fits_x fits_y same = absurd (omega arith)
 same_pairs (x ∷ xs) [] len fits_x fits_y same = absurd (omega arith)
 same_pairs (x ∷ xs) (y ∷ ys) len fits_x fits_y same =
-    let parts : (avail_bytes x ≡ avail_bytes y) × (flat_map avail_bytes xs ≡ flat_map avail_bytes ys) = same_parts (avail_bytes x) (avail_bytes y) (flat_map avail_bytes xs) (flat_map avail_bytes ys) refl same in
+    let parts : (avail_bytes x ≡ avail_bytes y) × (flat_map avail_bytes xs ≡ flat_map avail_bytes ys) =
+    same_parts (avail_bytes x) (avail_bytes y) (flat_map avail_bytes xs) (flat_map avail_bytes ys) refl same in
     let fit_x : FitPair x = All-head FitPair x xs fits_x in
     let fit_y : FitPair y = All-head FitPair y ys fits_y in
     let numbers : (x.0 ≡ y.0) × (x.1 ≡ y.1) = same_pair x.0 x.1 y.0 y.1 fit_x.0 fit_x.1 fit_y.0 fit_y.1 parts.0 in
@@ -73,7 +78,8 @@ FitSeg seg = (seg.start < 2 ^ 64) × (length seg.bytes < 2 ^ 64)
 one_seg : (s t : ℕ) (b c : List ℕ) → s ≡ t → b ≡ c → (let x : Seg = record { start = s; bytes = b } in x) ≡ record { start = t; bytes = c }
 one_seg s t b c first second = rw (first, second) refl
 
-same_segs : (xs ys : List Seg) → length xs ≡ length ys → All FitSeg xs → All FitSeg ys → flat_map seg_bytes xs ≡ flat_map seg_bytes ys → concat (map (λ seg. seg.bytes) xs) ≡ concat (map (λ seg. seg.bytes) ys) → xs ≡ ys
+same_segs : (xs ys : List Seg) → length xs ≡ length ys → All FitSeg xs → All FitSeg ys → flat_map seg_bytes xs ≡ flat_map seg_bytes ys
+    → concat (map (λ seg. seg.bytes) xs) ≡ concat (map (λ seg. seg.bytes) ys) → xs ≡ ys
 same_segs [] [] len fits_x fits_y same memory = refl
 same_segs [] (y ∷ ys) len fits_x fits_y same memory = absurd (omega arith)
 same_segs (x ∷ xs) [] len fits_x fits_y same memory = absurd (omega arith)
@@ -82,7 +88,8 @@ same_segs (x ∷ xs) (y ∷ ys) len fits_x fits_y same memory =
     let fit_x : FitSeg x = All-head FitSeg x xs fits_x in
     let fit_y : FitSeg y = All-head FitSeg y ys fits_y in
     let numbers : (x.start ≡ y.start) × (length x.bytes ≡ length y.bytes) = same_pair x.start (length x.bytes) y.start (length y.bytes) fit_x.0 fit_x.1 fit_y.0 fit_y.1 parts.0 in
-    let bytes : (x.bytes ≡ y.bytes) × (concat (map (λ seg. seg.bytes) xs) ≡ concat (map (λ seg. seg.bytes) ys)) = same_parts x.bytes y.bytes (concat (map (λ seg. seg.bytes) xs)) (concat (map (λ seg. seg.bytes) ys)) numbers.1 memory in
+    let bytes : (x.bytes ≡ y.bytes) × (concat (map (λ seg. seg.bytes) xs) ≡ concat (map (λ seg. seg.bytes) ys)) =
+    same_parts x.bytes y.bytes (concat (map (λ seg. seg.bytes) xs)) (concat (map (λ seg. seg.bytes) ys)) numbers.1 memory in
     let first : x ≡ y = one_seg x.start y.start x.bytes y.bytes numbers.0 bytes.0 in
     let rest : xs ≡ ys = same_segs xs ys (omega arith) (All-tail FitSeg x xs fits_x) (All-tail FitSeg y ys fits_y) parts.1 bytes.1 in
     rw (first, rest) refl
@@ -112,20 +119,28 @@ at_u64 : (f g : List ℕ) (at m n : ℕ) → f ≡ g → m < 2 ^ 64 → n < 2 ^ 
 at_u64 f g at m n same fits_m fits_n left right = sym (u64_le_at-spelled f at m fits_m left) ∙ (ap (λ (l : List ℕ). u64_le_at l at) same ∙ u64_le_at-spelled g at n fits_n right)
 
 -- the parts of a file, one after another
-parts_in_order : (front segs avail wanted host version panic msgbuf memory : List ℕ) → front ++ (segs ++ avail ++ wanted) ++ (host ++ version ++ panic ++ msgbuf) ++ memory ≡ front ++ (segs ++ (avail ++ (wanted ++ (host ++ (version ++ (panic ++ (msgbuf ++ memory)))))))
+parts_in_order : (front segs avail wanted host version panic msgbuf memory : List ℕ)
+    → front ++ (segs ++ avail ++ wanted) ++ (host ++ version ++ panic ++ msgbuf) ++ memory ≡ front ++ (segs ++ (avail ++ (wanted ++ (host ++ (version ++ (panic ++ (msgbuf ++ memory)))))))
 parts_in_order front segs avail wanted host version panic msgbuf memory = simp append_assoc
 
-pub spelling_in_order : (m : MachineImage) → spelling_of m ≡ front_of m ++ (flat_map seg_bytes m.segs ++ (flat_map avail_bytes m.avail ++ (flat_map u64 m.wanted ++ (m.texts.host ++ (m.texts.version ++ (m.texts.panic ++ (m.texts.msgbuf ++ memory_of m)))))))
+pub spelling_in_order : (m : MachineImage)
+    → spelling_of m ≡ front_of m ++ (flat_map seg_bytes m.segs ++ (flat_map avail_bytes m.avail ++ (flat_map u64 m.wanted ++
+    (m.texts.host ++ (m.texts.version ++ (m.texts.panic ++ (m.texts.msgbuf ++ memory_of m)))))))
 unfolding spelling_of
-spelling_in_order m = parts_in_order (front_of m) (flat_map seg_bytes m.segs) (flat_map avail_bytes m.avail) (flat_map u64 m.wanted) m.texts.host m.texts.version m.texts.panic m.texts.msgbuf (memory_of m)
+spelling_in_order m = parts_in_order (front_of m) (flat_map seg_bytes m.segs) (flat_map avail_bytes m.avail) (flat_map u64 m.wanted) m.texts.host m.texts.version m.texts.panic m.texts.msgbuf
+    (memory_of m)
 
-one_windows : (a b c d e a' b' c' d' e' : ℕ) → a ≡ a' → b ≡ b' → c ≡ c' → d ≡ d' → e ≡ e' → (let w : Windows = record { kernbase = a; kernspan = b; dmapbase = c; dmapend = d; dmapphys = e } in w) ≡ record { kernbase = a'; kernspan = b'; dmapbase = c'; dmapend = d'; dmapphys = e' }
+one_windows : (a b c d e a' b' c' d' e' : ℕ) → a ≡ a' → b ≡ b' → c ≡ c' → d ≡ d' → e ≡ e' →
+    (let w : Windows = record { kernbase = a; kernspan = b; dmapbase = c; dmapend = d; dmapphys = e } in w) ≡ record { kernbase = a'; kernspan = b'; dmapbase = c'; dmapend = d'; dmapphys = e' }
 one_windows a b c d e a' b' c' d' e' ea eb ec ed ee = rw (ea, eb, ec, ed, ee) refl
 
-one_texts : (a b c d : List ℕ) (t : ℕ) (a' b' c' d' : List ℕ) (t' : ℕ) → a ≡ a' → b ≡ b' → c ≡ c' → d ≡ d' → t ≡ t' → (let x : Texts = record { host = a; version = b; panic = c; msgbuf = d; time = t } in x) ≡ record { host = a'; version = b'; panic = c'; msgbuf = d'; time = t' }
+one_texts : (a b c d : List ℕ) (t : ℕ) (a' b' c' d' : List ℕ) (t' : ℕ) → a ≡ a' → b ≡ b' → c ≡ c' → d ≡ d' → t ≡ t' →
+    (let x : Texts = record { host = a; version = b; panic = c; msgbuf = d; time = t } in x) ≡ record { host = a'; version = b'; panic = c'; msgbuf = d'; time = t' }
 one_texts a b c d t a' b' c' d' t' ea eb ec ed et = rw (ea, eb, ec, ed, et) refl
 
-one_image : (a a' : Arch) (s s' : List Seg) (v v' : List (ℕ × ℕ)) (w w' : List ℕ) (r r' : ℕ) (k k' : Windows) (t t' : Texts) → a ≡ a' → s ≡ s' → v ≡ v' → w ≡ w' → r ≡ r' → k ≡ k' → t ≡ t' → (let x : MachineImage = record { arch = a; segs = s; avail = v; wanted = w; root = r; windows = k; texts = t } in x) ≡ record { arch = a'; segs = s'; avail = v'; wanted = w'; root = r'; windows = k'; texts = t' }
+one_image : (a a' : Arch) (s s' : List Seg) (v v' : List (ℕ × ℕ)) (w w' : List ℕ) (r r' : ℕ) (k k' : Windows) (t t' : Texts) → a ≡ a' → s ≡ s' → v ≡ v' → w ≡ w' → r ≡ r' → k ≡ k' → t ≡ t' →
+    (let x : MachineImage = record { arch = a; segs = s; avail = v; wanted = w; root = r; windows = k; texts = t } in x)
+    ≡ record { arch = a'; segs = s'; avail = v'; wanted = w'; root = r'; windows = k'; texts = t' }
 one_image a a' s s' v v' w w' r r' k k' t t' ea es ev ew er ek et = rw (ea, es, ev, ew, er, ek, et) refl
 
 fit_segs : (segs : List Seg) → All (λ seg. (seg.start < 2 ^ 64) × AreBytes seg.bytes) segs → All (λ seg. length seg.bytes < 2 ^ 64) segs → All FitSeg segs
@@ -160,6 +175,8 @@ one_spelling m n typed_m typed_n fits_m fits_n same =
     let panic = same_parts m.texts.panic n.texts.panic _ _ panic_length version.1 in
     let msgbuf = same_parts m.texts.msgbuf n.texts.msgbuf (memory_of m) (memory_of n) msgbuf_length panic.1 in
     let segs : m.segs ≡ n.segs = same_segs m.segs n.segs segs_count (fit_segs m.segs typed_m.segs fits_m.sizes) (fit_segs n.segs typed_n.segs fits_n.sizes) b.0 msgbuf.1 in
-    one_image m.arch n.arch m.segs n.segs m.avail n.avail m.wanted n.wanted m.root n.root m.windows n.windows m.texts n.texts arch segs (same_pairs m.avail n.avail avail_count typed_m.avail typed_n.avail c.0) (same_numbers m.wanted n.wanted wanted_count typed_m.wanted typed_n.wanted d.0) root
-    (one_windows m.windows.kernbase m.windows.kernspan m.windows.dmapbase m.windows.dmapend m.windows.dmapphys n.windows.kernbase n.windows.kernspan n.windows.dmapbase n.windows.dmapend n.windows.dmapphys kernbase kernspan dmapbase dmapend dmapphys)
+    one_image m.arch n.arch m.segs n.segs m.avail n.avail m.wanted n.wanted m.root n.root m.windows n.windows m.texts n.texts arch segs
+    (same_pairs m.avail n.avail avail_count typed_m.avail typed_n.avail c.0) (same_numbers m.wanted n.wanted wanted_count typed_m.wanted typed_n.wanted d.0) root
+    (one_windows m.windows.kernbase m.windows.kernspan m.windows.dmapbase m.windows.dmapend m.windows.dmapphys
+    n.windows.kernbase n.windows.kernspan n.windows.dmapbase n.windows.dmapend n.windows.dmapphys kernbase kernspan dmapbase dmapend dmapphys)
     (one_texts m.texts.host m.texts.version m.texts.panic m.texts.msgbuf m.texts.time n.texts.host n.texts.version n.texts.panic n.texts.msgbuf n.texts.time host.0 version.0 panic.0 msgbuf.0 time)

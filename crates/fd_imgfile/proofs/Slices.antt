@@ -21,7 +21,8 @@ module _ {A : Type 0} where
   slice-slice xs a b i j order within =
       let cut : drop i (take (b - a) (drop a xs)) ≡ take (b - a - i) (drop i (drop a xs)) = ap (λ n. drop i (take n (drop a xs))) (omega arith) ∙ drop-take i (b - a - i) (drop a xs) in
       let behind : drop i (drop a xs) ≡ drop (a + i) xs = drop-drop i a xs in
-      ap (λ (l : List A). take (j - i) l) cut ∙ (take-take (j - i) (b - a - i) (drop i (drop a xs)) (omega arith) ∙ (ap (λ (l : List A). take (j - i) l) behind ∙ ap (λ n. take n (drop (a + i) xs)) (omega arith)))
+      ap (λ (l : List A). take (j - i) l) cut
+      ∙ (take-take (j - i) (b - a - i) (drop i (drop a xs)) (omega arith) ∙ (ap (λ (l : List A). take (j - i) l) behind ∙ ap (λ n. take n (drop (a + i) xs)) (omega arith)))
 
 -- a slice of bytes has bytes
 pub byte_of_slice : (f : List ℕ) (a b i : ℕ) → ((k : ℕ) → get_or f k 0 < 2 ^ 8) → get_or (slice_range f a b) i 0 < 2 ^ 8

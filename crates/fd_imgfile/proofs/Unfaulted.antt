@@ -1,14 +1,15 @@
 -- The file of a valid image has no fault.
-use Rattle.std.proofs.Common.{◌≡◌, ℕ, zero, suc, ◌+◌, ◌-◌, ◌*◌, ◌<◌, ◌≤◌, ◌^◌, Bool, true, false, ◌&&◌, nat_lt, nat_le, cond, List, [], ◌∷◌, ◌++◌, length, map, take, drop, get_or, slice_range, All, Some, None, refl, sym, ◌∙◌, ap, eq-eqb, arith}
+use Rattle.std.proofs.Common.{◌≡◌, ℕ, zero, suc, ◌+◌, ◌-◌, ◌*◌, ◌<◌, ◌≤◌, ◌^◌, Bool, true, false, ◌&&◌, nat_lt, nat_le, cond, List, [], ◌∷◌, ◌++◌}
+use Rattle.std.proofs.Common.{length, map, take, drop, get_or, slice_range, sum, All, Some, None, refl, sym, ◌∙◌, ap, eq-eqb, arith}
 use Rattle.std.specs.Int.{w64, from_le_bytes}
-use Rattle.std.specs.List.{flat_map, range_with_len, sum_by}
+use Rattle.std.specs.List.{flat_map, sum_by}
 use Rattle.std.proofs.lemmas.Bool.Decides.{nat_tests}
 use Rattle.std.proofs.lemmas.List.{drop-drop, drop_at, get_or-map, length-append, length-map}
 use Rattle.std.proofs.lemmas.List.Concat.{concat_is, length-flat_map}
 use Rattle.std.proofs.lemmas.List.Elements.{All-head, All-tail}
 use Rattle.std.proofs.lemmas.List.Folds.{fold-map}
 use Rattle.std.proofs.lemmas.List.FromFn.{fill_by_all}
-use Rattle.std.proofs.lemmas.List.Sums.{get_or-le-sum_by}
+use Rattle.std.proofs.lemmas.List.Sums.{get_or-le-sum_by, sum-map}
 use Rattle.std.proofs.lemmas.Slice.Eq.{bytes_eq-Decides}
 use Rattle.fd_bytes.specs.Field.{u32_le_at, u64_le_at}
 use Rattle.fd_bytes.proofs.Fields.{u32_le_at-spelled, u64_le_at-spelled}
@@ -16,7 +17,7 @@ use Rattle.fd_bytes.specs.declared.arch.Arch.TheVariants.{Amd64, Arm64, Riscv}
 use Rattle.fd_image.specs.Image.{MachineImage, IsValid, is_within_limits, unless}
 use Rattle.fd_image.specs.declared.parts.Seg.{Seg}
 use Rattle.fd_image.proofs.Valid.{KeepsRules, rules_kept}
-use Rattle.fd_imgfile.specs.Front.{IsCounted, IsFront, IsWithinLimits, second, tables_length, texts_length}
+use Rattle.fd_imgfile.specs.Front.{IsCounted, IsFront, IsWithinLimits, lengths_in, second, tables_length, texts_length}
 use Rattle.fd_imgfile.specs.Reading.{fault_place, first_broken, front_checks}
 use Rattle.fd_imgfile.specs.Spelling.{FitsFields, avail_bytes, front_of, magic, memory_of, number_of, seg_bytes, spelling_of, u64}
 use Rattle.fd_imgfile.specs.declared.front.Front.{Front}
@@ -166,11 +167,13 @@ u64_behind front rest n at is =
     ap (from_le_bytes w64) (ap (take (n + at + 8 - (n + at))) behind ∙ ap (λ k. take k (drop at rest)) (omega arith))
 
 -- the table has each segment's length
-size_at : (segs : List Seg) (rest : List ℕ) (k : ℕ) (d : Seg) → k < length segs → All (λ seg. length seg.bytes < 2 ^ 64) segs → u64_le_at (flat_map seg_bytes segs ++ rest) (16 * k + 8) ≡ length (get_or segs k d).bytes
+size_at : (segs : List Seg) (rest : List ℕ) (k : ℕ) (d : Seg) → k < length segs → All (λ seg. length seg.bytes < 2 ^ 64) segs
+    → u64_le_at (flat_map seg_bytes segs ++ rest) (16 * k + 8) ≡ length (get_or segs k d).bytes
 size_at [] rest k d below fits = absurd (omega arith)
 size_at (x ∷ xs) rest zero d below fits = u64_le_at-spelled (flat_map seg_bytes (x ∷ xs) ++ rest) 8 (length x.bytes) (All-head (λ seg. length seg.bytes < 2 ^ 64) x xs fits) refl
 size_at (x ∷ xs) rest (suc k) d below fits =
-    ap (u64_le_at (flat_map seg_bytes (x ∷ xs) ++ rest)) (omega arith) ∙ (u64_behind (seg_bytes x) (flat_map seg_bytes xs ++ rest) 16 (16 * k + 8) refl ∙ size_at xs rest k d (omega arith) (All-tail (λ seg. length seg.bytes < 2 ^ 64) x xs fits))
+    ap (u64_le_at (flat_map seg_bytes (x ∷ xs) ++ rest)) (omega arith)
+    ∙ (u64_behind (seg_bytes x) (flat_map seg_bytes xs ++ rest) 16 (16 * k + 8) refl ∙ size_at xs rest k d (omega arith) (All-tail (λ seg. length seg.bytes < 2 ^ 64) x xs fits))
 
 -- a segment's pair in the table
 abbrev shape_of : Seg → ℕ × ℕ
@@ -186,7 +189,8 @@ eights [] = refl
 eights (x ∷ xs) = omega (arith, length-append (u64 x) (flat_map u64 xs), eights xs)
 
 memory_length : (m : MachineImage) → length (memory_of m) ≡ memory_size m.segs
-memory_length m = ap length (concat_is (map (λ seg. seg.bytes) m.segs)) ∙ (length-flat_map (λ (bytes : List ℕ). bytes) (map (λ seg. seg.bytes) m.segs) ∙ fold-map (λ (a : ℕ) (bytes : List ℕ). a + length bytes) (λ (seg : Seg). seg.bytes) 0 m.segs)
+memory_length m = ap length (concat_is (map (λ seg. seg.bytes) m.segs))
+    ∙ (length-flat_map (λ (bytes : List ℕ). bytes) (map (λ seg. seg.bytes) m.segs) ∙ fold-map (λ (a : ℕ) (bytes : List ℕ). a + length bytes) (λ (seg : Seg). seg.bytes) 0 m.segs)
 
 pub unfaulted : (m : MachineImage) → IsValid m → fault_place (spelling_of m) ≡ None
 unfaulted m valid =
@@ -203,10 +207,33 @@ unfaulted m valid =
     let f : List ℕ = front_of m ++ (table ++ r0) in
     let pairs : List (ℕ × ℕ) = map shape_of m.segs in
     let sizes : sum_by second pairs ≡ memory_size m.segs = fold-map (λ (a : ℕ) (p : ℕ × ℕ). a + p.1) shape_of 0 m.segs in
-    let size : length f ≡ 112 + tables_length h + texts_length h + sum_by second pairs = omega (arith, sizes, memory_length m, length-append (front_of m) (table ++ r0), length-append table r0, length-append (flat_map avail_bytes m.avail) r1, length-append (flat_map u64 m.wanted) r2, length-append m.texts.host r3, length-append m.texts.version r4, length-append m.texts.panic r5, length-append m.texts.msgbuf (memory_of m), sixteens seg_bytes (λ seg. refl) m.segs, sixteens avail_bytes (λ pair. refl) m.avail, eights m.wanted) in
+    let size : length f ≡ 112 + tables_length h + texts_length h + sum_by second pairs =
+    omega (
+      arith,
+      sizes,
+      memory_length m,
+      length-append (front_of m) (table ++ r0),
+      length-append table r0,
+      length-append (flat_map avail_bytes m.avail) r1,
+      length-append
+          (flat_map u64 m.wanted) r2,
+      length-append m.texts.host r3,
+      length-append m.texts.version r4,
+      length-append m.texts.panic r5,
+      length-append m.texts.msgbuf
+          (memory_of m),
+      sixteens seg_bytes (λ seg. refl) m.segs,
+      sixteens avail_bytes (λ pair. refl) m.avail,
+      eights m.wanted,
+    ) in
     let front : IsFront f h = record { long = omega (arith, size); kept = checks_kept m (table ++ r0) fits limits.1; spelled = refl; counted = counted m (table ++ r0) fits } in
-    let bytes : List ℕ = slice_range f 112 (112 + tables_length h) in
+    let bytes : List ℕ = slice_range f 112 (112 + 16 * length m.segs) in
     let none : Seg = record { start = 0; bytes = [] } in
-    let second_at : (k : ℕ) → k < length m.segs → get_or (map second pairs) k 0 ≡ u64_le_at bytes (16 * k + 8) = λ k below. get_or-map second pairs k (shape_of none) 0 (omega (arith, length-map m.segs shape_of)) ∙ (ap second (get_or-map shape_of m.segs k none (shape_of none) below) ∙ sym (u64_le_at-slice f 112 (112 + tables_length h) (16 * k + 8) (omega arith) ∙ (u64_behind (front_of m) (table ++ r0) 112 (16 * k + 8) refl ∙ size_at m.segs r0 k none below fits.sizes))) in
-    let seconds : map second pairs ≡ map (λ i. u64_le_at bytes (16 * i + 8)) (range_with_len 0 h.segs) = fill_by_all (λ i. u64_le_at bytes (16 * i + 8)) (map second pairs) (length m.segs) 0 (length-map pairs second ∙ length-map m.segs shape_of) second_at in
-    ap fault_place (spelling_in_order m) ∙ whole_kept f bytes h pairs (length f) front refl (omega (arith, size)) refl seconds size
+    let second_at : (k : ℕ) → k < length m.segs → get_or (map second pairs) k 0 ≡ u64_le_at bytes (16 * k + 8) =
+    λ k below. get_or-map second pairs k (shape_of none) 0 (omega (arith, length-map m.segs shape_of))
+    ∙ (ap second (get_or-map shape_of m.segs k none (shape_of none) below) ∙ sym
+    (u64_le_at-slice f 112 (112 + 16 * length m.segs) (16 * k + 8) (omega arith) ∙ (u64_behind (front_of m) (table ++ r0) 112 (16 * k + 8) refl ∙ size_at m.segs r0 k none below fits.sizes))) in
+    let seconds : map second pairs ≡ lengths_in bytes (length m.segs) =
+    fill_by_all (λ i. u64_le_at bytes (16 * i + 8)) (map second pairs) (length m.segs) 0 (length-map pairs second ∙ length-map m.segs shape_of) second_at in
+    let sums : sum (lengths_in bytes (length m.segs)) ≡ sum_by second pairs = ap sum (sym seconds) ∙ sum-map second pairs in
+    ap fault_place (spelling_in_order m) ∙ whole_kept f bytes h (length f) (record { front = front; long = omega (arith, size); read = refl }) refl (omega (arith, size, sums))

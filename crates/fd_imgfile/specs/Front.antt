@@ -1,18 +1,19 @@
 -- The fields of an image's file as the reader keeps them.
-use Rattle.std.specs.Prelude.{◌≡◌, ℕ, ◌+◌, ◌*◌, ◌^◌, ◌<◌, ◌≤◌, List, ◌++◌, length, slice_range, None}
-use Rattle.std.specs.List.{flat_map}
-use Rattle.fd_bytes.specs.Field.{u32_le_at}
+use Rattle.std.specs.Prelude.{◌≡◌, ℕ, ◌+◌, ◌*◌, ◌≤◌, List, ◌++◌, length, map, slice_range, None}
+use Rattle.std.specs.List.{flat_map, range_with_len}
+use Rattle.fd_bytes.specs.Field.{u32_le_at, u64_le_at}
 use Rattle.fd_imgfile.specs.Reading.{first_broken, front_checks}
 use Rattle.fd_imgfile.specs.Spelling.{magic, number_of, u32, u64, avail_bytes, windows_of}
 use Rattle.fd_imgfile.specs.declared.front.Front.{Front}
 use Rattle.fd_imgfile.specs.declared.tables.Tables.{Tables}
-use Rattle.fd_image.specs.Image.{AreBytes}
 use Rattle.fd_image.specs.declared.parts.Texts.{Texts}
 
 -- the 112 bytes of the fields
 abbrev pub fields_of : Front → List ℕ
 fields_of h =
-    magic ++ u32 1 ++ u32 (number_of h.arch) ++ (u32 h.segs ++ u32 h.avail ++ u32 h.wanted) ++ (u32 h.host ++ u32 h.version ++ u32 h.panic ++ u32 h.msgbuf) ++ u32 0 ++ u64 h.root ++ windows_of h.windows ++ u64 h.time
+    magic ++ u32 1 ++ u32 (number_of h.arch) ++ (u32 h.segs ++ u32 h.avail ++ u32 h.wanted)
+    ++ (u32 h.host ++ u32 h.version ++ u32 h.panic ++ u32 h.msgbuf)
+    ++ u32 0 ++ u64 h.root ++ windows_of h.windows ++ u64 h.time
 
 -- the counts and the lengths are those in the bytes
 pub record IsCounted (f : List ℕ) (h : Front) : Type 0 where
@@ -34,13 +35,6 @@ pub record IsWithinLimits (h : Front) : Type 0 where
   pub panic : h.panic ≤ 1023
   pub msgbuf : h.msgbuf ≤ 1048576
 
--- the image's own numbers fit their fields
-pub record AreNumbers (h : Front) : Type 0 where
-  pub root : h.root < 2 ^ 64
-  pub kernel_window : (h.windows.kernbase < 2 ^ 64) × (h.windows.kernspan < 2 ^ 64)
-  pub direct_map : (h.windows.dmapbase < 2 ^ 64) × (h.windows.dmapend < 2 ^ 64) × (h.windows.dmapphys < 2 ^ 64)
-  pub time : h.time < 2 ^ 64
-
 -- how many bytes the tables and the texts take
 abbrev pub tables_length : Front → ℕ
 tables_length h = 16 * h.segs + 16 * h.avail + 8 * h.wanted
@@ -57,6 +51,10 @@ pub record IsFront (f : List ℕ) (h : Front) : Type 0 where
 
 abbrev pub second : ℕ × ℕ → ℕ
 second pair = pair.1
+
+-- the lengths of the first segments in the bytes of their table
+abbrev pub lengths_in : List ℕ → ℕ → List ℕ
+lengths_in table n = map (λ i. u64_le_at table (16 * i + 8)) (range_with_len 0 n)
 
 -- the tables have as many places as the fields say
 pub record HasCounts (t : Tables) (h : Front) : Type 0 where
@@ -75,8 +73,3 @@ pub record HasLengths (t : Texts) (h : Front) : Type 0 where
   pub panic : length t.panic ≡ h.panic
   pub msgbuf : length t.msgbuf ≡ h.msgbuf
   pub time : t.time ≡ h.time
-
--- the texts are of bytes
-pub record AreTexts (t : Texts) : Type 0 where
-  pub names : AreBytes t.host × AreBytes t.version × AreBytes t.panic
-  pub msgbuf : AreBytes t.msgbuf

@@ -1,5 +1,6 @@
 -- What a file says of an image: the image, or why it spells none, or the rule that the image which it spells breaks.
-use Rattle.std.specs.Prelude.{◌≡◌, ℕ, ◌+◌, ◌*◌, Bool, ◌==◌, nat_lt, nat_le, min, if◌then◌else◌, List, [], ◌∷◌, length, map, take, Option, Some, None, IsSomeAnd, Result, Ok, Err}
+use Rattle.std.specs.Prelude.{◌≡◌, ℕ, ◌+◌, ◌*◌, Bool, ◌==◌, nat_lt, nat_le, min, if◌then◌else◌, List, [], ◌∷◌, length, map, take, Option, Some, None}
+use Rattle.std.specs.Prelude.{IsSomeAnd, Result, Ok, Err}
 use Rattle.std.specs.List.{range_with_len, sum}
 use Rattle.std.specs.Str.{bytes_eq}
 use Rattle.fd_bytes.specs.Field.{u32_le_at, u64_le_at}
@@ -17,9 +18,6 @@ first_broken (check ∷ checks) = if check.0 then first_broken checks else Some 
 -- a number at a place that may not be greater than a limit
 abbrev pub within : List ℕ → ℕ → ℕ → Bool × ℕ
 within f at limit = (nat_le (u32_le_at f at) limit, at)
-
-abbrev pub field_is : List ℕ → ℕ → Bool → Bool × ℕ
-field_is f at kept = (kept, at)
 
 -- the checks of the fields, in order: magic, version, architecture, counts and lengths within their limits, the zero
 abbrev pub front_checks : List ℕ → List (Bool × ℕ)
@@ -69,7 +67,6 @@ fault_place f = if nat_lt (length f) 112 then Some (length f) else by_front f (f
 
 -- a file spells an image, valid or not
 pub record SpellsImage (f : List ℕ) (m : MachineImage) : Type 0 where
-  pub typed : IsTyped m
   pub fits : FitsFields m
   pub is : f ≡ spelling_of m
   pub no_fault : fault_place f ≡ None
@@ -78,9 +75,7 @@ pub record SpellsImage (f : List ℕ) (m : MachineImage) : Type 0 where
 pub record SpellsBroken (f : List ℕ) (bad : rules.BadImage) : Type 0 where
   pub image : MachineImage
   pub typed : IsTyped image
-  pub fits : FitsFields image
-  pub is : f ≡ spelling_of image
-  pub no_fault : fault_place f ≡ None
+  pub spelled : SpellsImage f image
   pub broken : broken_rule image ≡ Some bad
 
 -- a file spells a valid image
@@ -89,23 +84,14 @@ pub record Spells (f : List ℕ) (m : MachineImage) : Type 0 where
   pub is : f ≡ spelling_of m
 
 -- What reading a file may answer, by the file as it is: the image that it spells, or why there is none. A fault of the
--- site and want of memory say nothing of the file.
+-- site says nothing of the file; want of memory comes only of one that is an image by its fields and its length.
 abbrev pub IsReading : Option (List ℕ) → Result MachineImage ImageFault → Type 0
 IsReading file (Ok m) = IsSomeAnd file (λ f. Spells f m)
 IsReading file (Err NoFile) = file ≡ None
 IsReading file (Err (NotImage place)) = IsSomeAnd file (λ f. fault_place f ≡ Some place)
 IsReading file (Err (BadImage bad)) = IsSomeAnd file (λ f. SpellsBroken f bad)
 IsReading file (Err SiteFault) = Unit {0}
-IsReading file (Err NoMemory) = Unit {0}
-
--- P where the site failed
-abbrev pub OnSiteFault : {T : Type 0} → Result T ImageFault → Type 0 → Type 0
-OnSiteFault (Ok x) P = Unit {0}
-OnSiteFault (Err NoFile) P = Unit {0}
-OnSiteFault (Err (NotImage place)) P = Unit {0}
-OnSiteFault (Err (BadImage bad)) P = Unit {0}
-OnSiteFault (Err SiteFault) P = P
-OnSiteFault (Err NoMemory) P = Unit {0}
+IsReading file (Err NoMemory) = IsSomeAnd file (λ f. fault_place f ≡ None)
 
 -- P of the place where the file is no image; there is a file, and no rule was looked at
 abbrev pub OnNotImage : {T : Type 0} → Result T ImageFault → (ℕ → Type 0) → Type 0

@@ -1,7 +1,11 @@
 //! Why no image was read.
+ghost use Rattle.std.specs.Prelude.{◌≡◌, Some};
+ghost use Rattle.fd_imgfile.specs.Fault.{image_number, image_text};
+
 use fd_image::BadImage;
 use fd_site::Failed;
 use std::alloc::AllocError;
+use std::fmt;
 
 /// Why no image was read.
 #[derive(Clone, Copy, PartialEq, Eq, Debug)]
@@ -19,8 +23,34 @@ pub enum ImageFault {
     NoMemory,
 }
 
+impl ImageFault {
+    /// The number of its refusal. A fault of the site and want of memory refuse nothing, and have none: it is 0.
+    pub fn number(&self) -> u8
+        ensures { result ≡ image_number self.now }
+    {
+        match self {
+            ImageFault::NoFile => 41,
+            ImageFault::NotImage(_) => 42,
+            ImageFault::BadImage(_) => 43,
+            ImageFault::SiteFault | ImageFault::NoMemory => 0,
+        }
+    }
+}
+
+impl fmt::Display for ImageFault {
+    ghost output = { λ fault. Some (image_text fault) };
+
+    fn fmt<W: fmt::Write>(&self, f: &mut fmt::Formatter<W>) -> fmt::Result {
+        match self {
+            ImageFault::NoFile => write!(f, "no file"),
+            ImageFault::NotImage(place) => write!(f, "not an image at {place}"),
+            ImageFault::BadImage(BadImage { rule, place }) => write!(f, "rule {rule} at {place}"),
+            ImageFault::SiteFault | ImageFault::NoMemory => Ok(()),
+        }
+    }
+}
+
 impl From<Failed> for ImageFault {
-    ghost use Rattle.std.specs.Prelude.{◌≡◌};
     ghost use Rattle.fd_imgfile.specs.declared.fault.ImageFault.TheVariants.{SiteFault};
 
     ghost from_gives = { λ _ fault. fault ≡ SiteFault };
@@ -31,7 +61,6 @@ impl From<Failed> for ImageFault {
 }
 
 impl From<AllocError> for ImageFault {
-    ghost use Rattle.std.specs.Prelude.{◌≡◌};
     ghost use Rattle.fd_imgfile.specs.declared.fault.ImageFault.TheVariants.{NoMemory};
 
     ghost from_gives = { λ _ fault. fault ≡ NoMemory };

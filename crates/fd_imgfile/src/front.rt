@@ -1,7 +1,7 @@
 //! The fields with which an image's file begins.
 ghost use Rattle.std.specs.Prelude.{◌≡◌, ◌+◌, ◌<◌, ◌≤◌, ◌^◌, IfNone, None, IfOk, IfErr, Some, length, slice_range};
 ghost use Rattle.fd_bytes.specs.Field.{u32_le_at};
-ghost use Rattle.fd_imgfile.specs.Front.{fields_of, AreNumbers, IsCounted, IsWithinLimits, tables_length, texts_length};
+ghost use Rattle.fd_imgfile.specs.Front.{fields_of, IsCounted, IsWithinLimits, tables_length, texts_length};
 ghost use Rattle.fd_imgfile.specs.Reading.{first_broken, front_checks, within};
 ghost use Rattle.fd_imgfile.specs.Spelling.{number_of, windows_of};
 
@@ -52,7 +52,6 @@ pub(crate) fn read_fields(bytes: &[u8]) -> Result<Front, u64>
     ensures spelling { IfOk result (λ front. bytes.now ≡ fields_of front) }
     ensures counts { IfOk result (λ front. IsCounted bytes.now front) }
     ensures limits { IfOk result (λ front. IsWithinLimits front) }
-    ensures numbers { IfOk result (λ front. AreNumbers front) }
 {
     match broken_field(bytes) {
         Some(place) => Err(place),
@@ -106,7 +105,6 @@ fn fields_of(bytes: &[u8]) -> Front
     ensures spelling { bytes.now ≡ fields_of result }
     ensures counts { IsCounted bytes.now result }
     ensures limits { IsWithinLimits result }
-    ensures numbers { AreNumbers result }
 {
     Front {
         arch: arch_of(get_u32_le(bytes, 20)),
@@ -125,9 +123,7 @@ fn fields_of(bytes: &[u8]) -> Front
 
 fn windows_in(bytes: &[u8]) -> Windows
     requires { length bytes.now ≡ 112 }
-    ensures spelling { slice_range bytes.now 64 104 ≡ windows_of result }
-    ensures kernel_window { (result.kernbase < 2 ^ 64) × (result.kernspan < 2 ^ 64) }
-    ensures direct_map { (result.dmapbase < 2 ^ 64) × (result.dmapend < 2 ^ 64) × (result.dmapphys < 2 ^ 64) }
+    ensures { slice_range bytes.now 64 104 ≡ windows_of result }
 {
     Windows {
         kernbase: get_u64_le(bytes, 64),

@@ -1,14 +1,15 @@
 //! Reading an image's file.
-ghost use Rattle.std.specs.Prelude.{◌≡◌, ◌+◌, ◌≤◌, ◌<◌, ◌^◌, IsTrue, IfOk, None, Some, length, All, map, slice_range};
+ghost use Rattle.std.specs.Prelude.{◌≡◌, ◌+◌, ◌*◌, ◌≤◌, ◌<◌, ◌^◌, IsTrue, IfOk, IsErrOf, OnOk, None, Some, length, All, map, slice_range, sum};
 ghost use Rattle.std.specs.List.{concat, flat_map, sum_by};
-ghost use Rattle.fd_image.specs.Image.{AreBytes};
 ghost use Rattle.fd_site.specs.Contents.{Told, file_of};
 ghost use Rattle.fd_site.specs.Fault.{Rose};
 ghost use Rattle.fd_site.specs.Name.{is_good_name};
+ghost use Rattle.fd_site.specs.Seen.{Untouched};
 ghost use Rattle.fd_imgfile.specs.File.{HasLength, IsFileAnd, OfFile};
-ghost use Rattle.fd_imgfile.specs.Front.{AreNumbers, AreTexts, HasCounts, HasLengths, IsFront, IsWithinLimits, bytes_of, second, tables_length, texts_length};
-ghost use Rattle.fd_imgfile.specs.Reading.{IsReading, OnNotImage, OnSiteFault, SaysNothing, SpellsImage, fault_place};
+ghost use Rattle.fd_imgfile.specs.Front.{HasCounts, HasLengths, IsFront, IsWithinLimits, bytes_of, lengths_in, second, tables_length, texts_length};
+ghost use Rattle.fd_imgfile.specs.Reading.{IsReading, OnNotImage, SaysNothing, SpellsImage, fault_place};
 ghost use Rattle.fd_imgfile.specs.Spelling.{avail_bytes, seg_bytes, texts_of};
+ghost use Rattle.fd_imgfile.specs.declared.fault.ImageFault.TheVariants.{NoMemory, SiteFault};
 
 use crate::fault::ImageFault;
 use crate::front::{Front, read_fields, tables_length, texts_length};
@@ -18,15 +19,13 @@ use fd_site::Site;
 use std::alloc::Global;
 
 /// Reads the image of a file. The file is no image where its fields, its tables or its length say so; else the image may
-/// break one of its rules. All memory is taken from `alloc`, and the segments' bytes are read to where they stay.
+/// break one of its rules. Memory is taken from `alloc` once the length is known to be right, and the segments' bytes are
+/// read to where they stay.
 pub fn read_image<S: Site>(alloc: Global, site: &mut S, name: &str) -> Result<Image, ImageFault>
     requires { IsTrue (is_good_name name.now) }
-    ensures reading { Told (S.told site.old) (λ c. IsReading (file_of c name.now) result) }
-    ensures same { S.told site.new ≡ S.told site.old }
-    ensures size { S.part_size site.new ≡ S.part_size site.old }
-    ensures block { S.block_size site.new ≡ S.block_size site.old }
-    ensures count { S.faults site.old ≤ S.faults site.new }
-    ensures cause { OnSiteFault result (Rose (S.faults site.old) (S.faults site.new)) }
+    ensures reading { Told (S.seen site.old).told (λ c. IsReading (file_of c name.now) result) }
+    ensures untouched { Untouched (S.seen site.old) (S.seen site.new) }
+    ensures cause { IsErrOf result SiteFault → Rose (S.seen site.old).faults (S.seen site.new).faults }
 {
     let len = match site.file_len(name)? {
         Some(len) => len,
@@ -47,14 +46,12 @@ fn read_parts<S: Site>(
     len: u64,
 ) -> Result<Parts, ImageFault>
     requires name { IsTrue (is_good_name name.now) }
-    requires length { HasLength (S.told site.old) name.now len }
-    ensures parts { IfOk result (λ m. IsFileAnd (S.told site.old) name.now (λ file. SpellsImage file m)) }
-    ensures refused { OnNotImage result (λ place. OfFile (S.told site.old) name.now (λ file. fault_place file ≡ Some place)) }
-    ensures same { S.told site.new ≡ S.told site.old }
-    ensures size { S.part_size site.new ≡ S.part_size site.old }
-    ensures block { S.block_size site.new ≡ S.block_size site.old }
-    ensures count { S.faults site.old ≤ S.faults site.new }
-    ensures cause { OnSiteFault result (Rose (S.faults site.old) (S.faults site.new)) }
+    requires length { HasLength (S.seen site.old).told name.now len }
+    ensures parts { IfOk result (λ m. IsFileAnd (S.seen site.old).told name.now (λ file. SpellsImage file m)) }
+    ensures refused { OnNotImage result (λ place. OfFile (S.seen site.old).told name.now (λ file. fault_place file ≡ Some place)) }
+    ensures want { IsErrOf result NoMemory → IsFileAnd (S.seen site.old).told name.now (λ file. fault_place file ≡ None) }
+    ensures untouched { Untouched (S.seen site.old) (S.seen site.new) }
+    ensures cause { IsErrOf result SiteFault → Rose (S.seen site.old).faults (S.seen site.new).faults }
 {
     let front = read_front(site, name, len)?;
     let tables = read_tables(alloc, site, name, len, &front)?;
@@ -73,19 +70,16 @@ fn read_parts<S: Site>(
     })
 }
 
-// The fields of a file of this length.
+// The fields of a file of this length. It takes no memory.
 fn read_front<S: Site>(site: &mut S, name: &str, len: u64) -> Result<Front, ImageFault>
     requires name { IsTrue (is_good_name name.now) }
-    requires length { HasLength (S.told site.old) name.now len }
-    ensures front { IfOk result (λ front. OfFile (S.told site.old) name.now (λ file. IsFront file front)) }
+    requires length { HasLength (S.seen site.old).told name.now len }
+    ensures front { IfOk result (λ front. OfFile (S.seen site.old).told name.now (λ file. IsFront file front)) }
     ensures limits { IfOk result (λ front. IsWithinLimits front) }
-    ensures numbers { IfOk result (λ front. AreNumbers front) }
-    ensures refused { OnNotImage result (λ place. OfFile (S.told site.old) name.now (λ file. fault_place file ≡ Some place)) }
-    ensures same { S.told site.new ≡ S.told site.old }
-    ensures size { S.part_size site.new ≡ S.part_size site.old }
-    ensures block { S.block_size site.new ≡ S.block_size site.old }
-    ensures count { S.faults site.old ≤ S.faults site.new }
-    ensures cause { OnSiteFault result (Rose (S.faults site.old) (S.faults site.new)) }
+    ensures refused { OnNotImage result (λ place. OfFile (S.seen site.old).told name.now (λ file. fault_place file ≡ Some place)) }
+    ensures free { IsErrOf result NoMemory → ⊥ }
+    ensures untouched { Untouched (S.seen site.old) (S.seen site.new) }
+    ensures cause { IsErrOf result SiteFault → Rose (S.seen site.old).faults (S.seen site.new).faults }
 {
     if len < 112 {
         return Err(ImageFault::NotImage(len));
@@ -107,21 +101,50 @@ fn read_bytes<S: Site>(
     len: u64,
 ) -> Result<Vec<u8>, ImageFault>
     requires name { IsTrue (is_good_name name.now) }
-    requires inside { IsFileAnd (S.told site.old) name.now (λ file. at + len ≤ length file) }
-    ensures bytes { IfOk result (λ bytes. OfFile (S.told site.old) name.now (λ file. bytes.items ≡ slice_range file at (at + len))) }
+    requires inside { IsFileAnd (S.seen site.old).told name.now (λ file. at + len ≤ length file) }
+    ensures bytes { IfOk result (λ bytes. OfFile (S.seen site.old).told name.now (λ file. bytes.items ≡ slice_range file at (at + len))) }
     ensures len { IfOk result (λ bytes. length bytes.items ≡ len) }
-    ensures typed { IfOk result (λ bytes. AreBytes bytes.items) }
     ensures silent { SaysNothing result }
-    ensures same { S.told site.new ≡ S.told site.old }
-    ensures size { S.part_size site.new ≡ S.part_size site.old }
-    ensures block { S.block_size site.new ≡ S.block_size site.old }
-    ensures count { S.faults site.old ≤ S.faults site.new }
-    ensures cause { OnSiteFault result (Rose (S.faults site.old) (S.faults site.new)) }
+    ensures untouched { Untouched (S.seen site.old) (S.seen site.new) }
+    ensures cause { IsErrOf result SiteFault → Rose (S.seen site.old).faults (S.seen site.new).faults }
 {
     let mut bytes = vec![in alloc; 0u8; len as usize]?;
     site.read_file(name, at, bytes.as_mut_slice())?;
-    are_bytes(bytes.as_slice());
+    prove!(bytes.len() as u64 == len);
     Ok(bytes)
+}
+
+// Reads the table of segments, where a file of this length that begins with these fields has the length that they and the
+// table give it. It takes no memory.
+fn read_table<S: Site>(
+    site: &mut S,
+    name: &str,
+    len: u64,
+    front: &Front,
+    table: &mut [u8],
+) -> Result<(), ImageFault>
+    requires name { IsTrue (is_good_name name.now) }
+    requires length { HasLength (S.seen site.old).told name.now len }
+    requires front { OfFile (S.seen site.old).told name.now (λ file. IsFront file front.now) }
+    requires limits { IsWithinLimits front.now }
+    requires room { length table.old ≡ 16 * front.now.segs }
+    ensures whole { OnOk result (112 + tables_length front.now + texts_length front.now + sum (lengths_in table.new front.now.segs) ≡ len) }
+    ensures bytes { OnOk result (OfFile (S.seen site.old).told name.now (λ file. table.new ≡ slice_range file 112 (112 + 16 * front.now.segs))) }
+    ensures no_fault { OnOk result (OfFile (S.seen site.old).told name.now (λ file. fault_place file ≡ None)) }
+    ensures refused { OnNotImage result (λ place. OfFile (S.seen site.old).told name.now (λ file. fault_place file ≡ Some place)) }
+    ensures free { IsErrOf result NoMemory → ⊥ }
+    ensures untouched { Untouched (S.seen site.old) (S.seen site.new) }
+    ensures cause { IsErrOf result SiteFault → Rose (S.seen site.old).faults (S.seen site.new).faults }
+{
+    if len < 112 + tables_length(front) {
+        return Err(ImageFault::NotImage(len));
+    }
+    site.read_file(name, 112, table)?;
+    let whole = whole_length(front, table);
+    if u128::from(len) != whole {
+        return Err(ImageFault::NotImage(u128::from(len).min(whole) as u64));
+    }
+    Ok(())
 }
 
 // The tables of a file of this length that begins with these fields, where it has the length that they give it.
@@ -133,39 +156,26 @@ fn read_tables<S: Site>(
     front: &Front,
 ) -> Result<Tables, ImageFault>
     requires name { IsTrue (is_good_name name.now) }
-    requires length { HasLength (S.told site.old) name.now len }
-    requires front { OfFile (S.told site.old) name.now (λ file. IsFront file front.now) }
+    requires length { HasLength (S.seen site.old).told name.now len }
+    requires front { OfFile (S.seen site.old).told name.now (λ file. IsFront file front.now) }
     requires limits { IsWithinLimits front.now }
     ensures whole { IfOk result (λ t. 112 + tables_length front.now + texts_length front.now + sum_by second t.segs.items ≡ len) }
-    ensures spelling { IfOk result (λ t. OfFile (S.told site.old) name.now (λ file. bytes_of t ≡ slice_range file 112 (112 + tables_length front.now))) }
-    ensures no_fault { IfOk result (λ _. OfFile (S.told site.old) name.now (λ file. fault_place file ≡ None)) }
+    ensures spelling { IfOk result (λ t. OfFile (S.seen site.old).told name.now (λ file. bytes_of t ≡ slice_range file 112 (112 + tables_length front.now))) }
+    ensures no_fault { IfOk result (λ _. OfFile (S.seen site.old).told name.now (λ file. fault_place file ≡ None)) }
     ensures counts { IfOk result (λ t. HasCounts t front.now) }
-    ensures avail { IfOk result (λ t. All (λ p. (p.0 < 2 ^ 64) × (p.1 < 2 ^ 64)) t.avail.items) }
-    ensures wanted { IfOk result (λ t. All (λ page. page < 2 ^ 64) t.wanted.items) }
-    ensures refused { OnNotImage result (λ place. OfFile (S.told site.old) name.now (λ file. fault_place file ≡ Some place)) }
-    ensures same { S.told site.new ≡ S.told site.old }
-    ensures size { S.part_size site.new ≡ S.part_size site.old }
-    ensures block { S.block_size site.new ≡ S.block_size site.old }
-    ensures count { S.faults site.old ≤ S.faults site.new }
-    ensures cause { OnSiteFault result (Rose (S.faults site.old) (S.faults site.new)) }
+    ensures refused { OnNotImage result (λ place. OfFile (S.seen site.old).told name.now (λ file. fault_place file ≡ Some place)) }
+    ensures want { IsErrOf result NoMemory → OfFile (S.seen site.old).told name.now (λ file. fault_place file ≡ None) }
+    ensures untouched { Untouched (S.seen site.old) (S.seen site.new) }
+    ensures cause { IsErrOf result SiteFault → Rose (S.seen site.old).faults (S.seen site.new).faults }
 {
-    let tables_len = tables_length(front);
-    if len < 112 + tables_len {
-        return Err(ImageFault::NotImage(len));
-    }
-    let bytes = read_bytes(alloc, site, name, 112, tables_len)?;
-    let tables = tables_in(alloc, bytes.as_slice(), front)?;
-    let whole = whole_length(front, tables.segs.as_slice());
-    if u128::from(len) != whole {
-        return Err(ImageFault::NotImage(u128::from(len).min(whole) as u64));
-    }
-    Ok(tables)
+    let mut buffer = [0; 1024];
+    let table = &mut buffer[..16 * front.segs as usize];
+    read_table(site, name, len, front, table)?;
+    let ranges_at = 112 + 16 * u64::from(front.segs);
+    let ranges_len = 16 * u64::from(front.avail) + 8 * u64::from(front.wanted);
+    let ranges = read_bytes(alloc, site, name, ranges_at, ranges_len)?;
+    Ok(tables_in(alloc, table, ranges.as_slice(), front)?)
 }
-
-// What the type already says, for the image's validity. It has no effect.
-fn are_bytes(bytes: &[u8])
-    ensures { AreBytes bytes.now }
-{}
 
 // The texts, which stand one after another from `at` on.
 fn read_texts<S: Site>(
@@ -176,17 +186,13 @@ fn read_texts<S: Site>(
     front: &Front,
 ) -> Result<Texts, ImageFault>
     requires name { IsTrue (is_good_name name.now) }
-    requires inside { IsFileAnd (S.told site.old) name.now (λ file. at + texts_length front.now ≤ length file) }
+    requires inside { IsFileAnd (S.seen site.old).told name.now (λ file. at + texts_length front.now ≤ length file) }
     requires fits { at + texts_length front.now < 2 ^ 64 }
-    ensures texts { IfOk result (λ t. OfFile (S.told site.old) name.now (λ file. texts_of t ≡ slice_range file at (at + texts_length front.now))) }
+    ensures texts { IfOk result (λ t. OfFile (S.seen site.old).told name.now (λ file. texts_of t ≡ slice_range file at (at + texts_length front.now))) }
     ensures lengths { IfOk result (λ t. HasLengths t front.now) }
-    ensures typed { IfOk result (λ t. AreTexts t) }
     ensures silent { SaysNothing result }
-    ensures same { S.told site.new ≡ S.told site.old }
-    ensures size { S.part_size site.new ≡ S.part_size site.old }
-    ensures block { S.block_size site.new ≡ S.block_size site.old }
-    ensures count { S.faults site.old ≤ S.faults site.new }
-    ensures cause { OnSiteFault result (Rose (S.faults site.old) (S.faults site.new)) }
+    ensures untouched { Untouched (S.seen site.old) (S.seen site.new) }
+    ensures cause { IsErrOf result SiteFault → Rose (S.seen site.old).faults (S.seen site.new).faults }
 {
     let version_at = at + u64::from(front.host);
     let panic_at = version_at + u64::from(front.version);
@@ -215,19 +221,15 @@ fn read_segments<S: Site>(
     table: &[(u64, u64)],
 ) -> Result<Vec<Seg>, ImageFault>
     requires name { IsTrue (is_good_name name.now) }
-    requires inside { IsFileAnd (S.told site.old) name.now (λ file. at + sum_by second table.now ≤ length file) }
+    requires inside { IsFileAnd (S.seen site.old).told name.now (λ file. at + sum_by second table.now ≤ length file) }
     requires fits { at + sum_by second table.now < 2 ^ 64 }
     ensures table { IfOk result (λ segs. flat_map seg_bytes segs.items ≡ flat_map avail_bytes table.now) }
     ensures places { IfOk result (λ segs. length segs.items ≡ length table.now) }
-    ensures memory { IfOk result (λ segs. OfFile (S.told site.old) name.now (λ file. concat (map (λ seg. seg.bytes) segs.items) ≡ slice_range file at (at + sum_by second table.now))) }
-    ensures typed { IfOk result (λ segs. All (λ seg. (seg.start < 2 ^ 64) × AreBytes seg.bytes) segs.items) }
+    ensures memory { IfOk result (λ segs. OfFile (S.seen site.old).told name.now (λ file. concat (map (λ seg. seg.bytes) segs.items) ≡ slice_range file at (at + sum_by second table.now))) }
     ensures sizes { IfOk result (λ segs. All (λ seg. length seg.bytes < 2 ^ 64) segs.items) }
     ensures silent { SaysNothing result }
-    ensures same { S.told site.new ≡ S.told site.old }
-    ensures size { S.part_size site.new ≡ S.part_size site.old }
-    ensures block { S.block_size site.new ≡ S.block_size site.old }
-    ensures count { S.faults site.old ≤ S.faults site.new }
-    ensures cause { OnSiteFault result (Rose (S.faults site.old) (S.faults site.new)) }
+    ensures untouched { Untouched (S.seen site.old) (S.seen site.new) }
+    ensures cause { IsErrOf result SiteFault → Rose (S.seen site.old).faults (S.seen site.new).faults }
 {
     let mut segs = Vec::new(alloc);
     let mut next = at;

@@ -4,6 +4,7 @@ use fd_bytes::Arch;
 use fd_fake::MemSite;
 use fd_image::{BadImage, Image, Windows};
 use std::alloc::{AllocError, Global};
+use std::process::Abort;
 use std::test::Fail;
 
 const START: u64 = 0x8000_0000;
@@ -103,10 +104,12 @@ fn wrong_byte(place: u64) -> (usize, u8) {
     }
 }
 
-#[test]
-fn a_small_image_is_read(rt: HostRuntime) -> Result<(), Fail> {
-    let file = image_file(rt.alloc(), START + 0x6000)?;
-    let image = read(rt.alloc(), file)?.ok().ok_or("an image")?;
+fn small_image(alloc: Global) -> Result<Image, Fail> {
+    let file = image_file(alloc, START + 0x6000)?;
+    Ok(read(alloc, file)?.ok().ok_or("an image")?)
+}
+
+fn has_numbers(rt: &impl Abort, image: &Image) {
     let windows = Windows {
         kernbase: 0xffff_ffc0_0000_0000,
         kernspan: 0x20_0000,
@@ -122,22 +125,36 @@ fn a_small_image_is_read(rt: HostRuntime) -> Result<(), Fail> {
     );
     assert_eq!(rt; image.root(), START);
     assert_eq!(rt; image.windows(), windows);
-    Ok(())
 }
 
 #[test]
-fn its_texts_and_memory_are_read(rt: HostRuntime) -> Result<(), Fail> {
-    let file = image_file(rt.alloc(), START + 0x6000)?;
-    let image = read(rt.alloc(), file)?.ok().ok_or("an image")?;
+fn a_small_image_is_read(rt: HostRuntime) -> Result<(), Fail> {
+    let image = small_image(rt.alloc())?;
+    has_numbers(&rt, &image);
+    Ok(())
+}
+
+fn has_texts(rt: &impl Abort, image: &Image) {
     let texts = image.texts();
     assert_eq!(rt; texts.host.as_slice(), b"rv".as_slice());
     assert_eq!(rt; texts.version.as_slice(), b"FreeBSD 14".as_slice());
     assert_eq!(rt; texts.panic.as_slice(), b"test".as_slice());
     assert_eq!(rt; texts.msgbuf.as_slice(), b"panic: test\n".as_slice());
     assert_eq!(rt; texts.time, 1_700_000_000);
+}
+
+fn has_page(rt: &impl Abort, image: &Image) -> Result<(), Fail> {
     let page = image.page(START + 0x2000).ok_or("a page")?;
     assert_eq!(rt; page.len(), 4096);
     assert_eq!(rt; &page[4088..], [0xf8, 0x2f, 0, 0x80, 0, 0, 0, 0].as_slice());
+    Ok(())
+}
+
+#[test]
+fn its_texts_and_memory_are_read(rt: HostRuntime) -> Result<(), Fail> {
+    let image = small_image(rt.alloc())?;
+    has_texts(&rt, &image);
+    has_page(&rt, &image)?;
     Ok(())
 }
 
@@ -163,10 +180,15 @@ fn another_length_is_refused(rt: HostRuntime) -> Result<(), Fail> {
     Ok(())
 }
 
+// Why the small image's file is refused whose range of available memory ends here.
+fn refusal_of_range(alloc: Global, avail_end: u64) -> Result<Option<ImageFault>, Fail> {
+    let file = image_file(alloc, avail_end)?;
+    Ok(read(alloc, file)?.err())
+}
+
 #[test]
 fn a_broken_rule_is_named(rt: HostRuntime) -> Result<(), Fail> {
-    let file = image_file(rt.alloc(), START + 0x7000)?;
-    let fault = read(rt.alloc(), file)?.err();
+    let fault = refusal_of_range(rt.alloc(), START + 0x7000)?;
     assert_eq!(rt;
         fault,
         Some(ImageFault::BadImage(BadImage { rule: 8, place: 0 }))
@@ -174,15 +196,41 @@ fn a_broken_rule_is_named(rt: HostRuntime) -> Result<(), Fail> {
     Ok(())
 }
 
+// Why nothing is read of a site without files.
+fn refusal_without_file(alloc: Global) -> Result<Option<ImageFault>, Fail> {
+    let mut site = MemSite::new(alloc, 0, 512, Vec::new(alloc))?;
+    Ok(read_image(alloc, &mut site, "a.img").err())
+}
+
+// Why the small image isn't read from a site whose third call fails.
+fn refusal_of_site(alloc: Global) -> Result<Option<ImageFault>, Fail> {
+    let file = image_file(alloc, START + 0x6000)?;
+    let mut site = MemSite::new(alloc, 0, 512, vec![in alloc; 3]?)?;
+    site.preset_file("a.img", file)?;
+    Ok(read_image(alloc, &mut site, "a.img").err())
+}
+
 #[test]
 fn a_file_must_be_there_and_the_site_may_fail(rt: HostRuntime) -> Result<(), Fail> {
+    let missing = refusal_without_file(rt.alloc())?;
+    assert_eq!(rt; missing, Some(ImageFault::NoFile));
+    let failed = refusal_of_site(rt.alloc())?;
+    assert_eq!(rt; failed, Some(ImageFault::SiteFault));
+    Ok(())
+}
+
+// Whether this number and this text are printed of a refusal.
+fn is_printed(alloc: Global, fault: ImageFault, number: u8, text: &str) -> Result<bool, Fail> {
+    let printed = format!(in alloc; "{fault}")?;
+    Ok(fault.number() == number && printed.as_str() == text)
+}
+
+#[test]
+fn refusals_have_numbers_and_texts(rt: HostRuntime) -> Result<(), Fail> {
     let alloc = rt.alloc();
-    let mut site = MemSite::new(alloc, 0, 512, Vec::new(alloc))?;
-    let fault = read_image(alloc, &mut site, "a.img").err();
-    assert_eq!(rt; fault, Some(ImageFault::NoFile));
-    let mut site = MemSite::new(alloc, 0, 512, vec![in alloc; 3]?)?;
-    site.preset_file("a.img", image_file(alloc, START + 0x6000)?)?;
-    let fault = read_image(alloc, &mut site, "a.img").err();
-    assert_eq!(rt; fault, Some(ImageFault::SiteFault));
+    let bad = BadImage { rule: 8, place: 0 };
+    assert!(rt; is_printed(alloc, ImageFault::NoFile, 41, "no file")?);
+    assert!(rt; is_printed(alloc, ImageFault::NotImage(52), 42, "not an image at 52")?);
+    assert!(rt; is_printed(alloc, ImageFault::BadImage(bad), 43, "rule 8 at 0")?);
     Ok(())
 }

@@ -1,5 +1,6 @@
 -- What a write leaves of which only some sectors became new.
-use Rattle.std.proofs.Common.{◌≡◌, ◌⊎◌, inl, inr, ℕ, ◌+◌, ◌*◌, ◌/◌, ◌%◌, ◌≤◌, Bool, true, false, List, [], ◌∷◌, ◌++◌, length, take, drop, refl, sym, ◌∙◌, ap, arith, length-drop, take-append-drop, append_assoc}
+use Rattle.std.proofs.Common.{◌≡◌, ◌⊎◌, inl, inr, ℕ, ◌+◌, ◌*◌, ◌/◌, ◌%◌, ◌≤◌, Bool, true, false, List, [], ◌∷◌, ◌++◌, length, take, drop, refl, sym}
+use Rattle.std.proofs.Common.{◌∙◌, ap, arith, length-drop, take-append-drop, append_assoc}
 use Rattle.std.proofs.lemmas.List.{length-take-le, take_all, take-take, take_at, drop_at}
 use Rattle.fd_site.specs.Journal.{merged, written}
 use Rattle.fd_site.proofs.Written.{length-written, take-written, drop-written}

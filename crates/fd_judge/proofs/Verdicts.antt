@@ -1,5 +1,6 @@
 -- When a partition is refused, and when it is judged a dump.
-use Rattle.std.proofs.Common.{◌≡◌, ◌≢◌, ◌⊎◌, inl, inr, ℕ, ◌+◌, ◌%◌, ◌≤◌, true, false, not, ◌==◌, cond, IsTrue, List, [], ◌∷◌, length, take, None, is_none, Result, Ok, Err, refl, sym, ◌∙◌, ap, subst, arith}
+use Rattle.std.proofs.Common.{◌≡◌, ◌≢◌, ◌⊎◌, inl, inr, ℕ, ◌+◌, ◌%◌, ◌≤◌, true, false, not, ◌==◌, cond, IsTrue, List, [], ◌∷◌, length, take, None}
+use Rattle.std.proofs.Common.{is_none, Result, Ok, Err, refl, sym, ◌∙◌, ap, subst, arith}
 use Rattle.std.proofs.lemmas.Bool.Decides.{nat_tests}
 use Rattle.std.specs.List.{zip, prefix_len}
 use Rattle.fd_bytes.specs.Arch.{arch_of_header}

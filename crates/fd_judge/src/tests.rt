@@ -1,15 +1,15 @@
 //! What judging answers over partitions in memory.
 
-ghost use Rattle.std.specs.Prelude.{◌≡◌, ◌≤◌, [], length, IfOk};
+ghost use Rattle.std.specs.Prelude.{◌≡◌, ◌≤◌, ◌%◌, ◌^◌, [], length, IfOk};
 ghost use Rattle.fd_kdh.specs.Header.{FitsFields};
 
 use super::{Verdict, Why, judge};
 use fd_bytes::{Arch, Label};
-use fd_fake::{MemSite, NoMemory};
+use fd_fake::MemSite;
 use fd_kdh::{CLEARED_MAGIC, Header, encode};
 use fd_part::{Wrote, good_partition, write_dump};
 use fd_site::{Failed, Site, SiteFault, SlicePieces};
-use std::alloc::Global;
+use std::alloc::{AllocError, Global};
 use std::process::Abort;
 use std::test::Fail;
 
@@ -43,14 +43,14 @@ fn small() -> Header
 }
 
 // A zero partition.
-fn partition(alloc: Global, size: u64, block: u32) -> Result<MemSite, NoMemory>
+fn partition(alloc: Global, size: u64, block: u32) -> Result<MemSite, AllocError>
     ensures fresh { IfOk result (λ site. site.disk.journal ≡ []) }
     ensures size { IfOk result (λ site. length site.disk.base_part ≡ size) }
 {
     MemSite::new(alloc, size, block, Vec::new(alloc))
 }
 
-fn write(rt: &impl Abort, site: &mut MemSite, at: u64, bytes: &[u8]) -> Result<(), Failed> {
+fn write<S: Site>(rt: &impl Abort, site: &mut S, at: u64, bytes: &[u8]) -> Result<(), Failed> {
     let count = bytes.len() as u64;
     assert_eq!(rt; at % 512, 0);
     assert_eq!(rt; count % 512, 0);
@@ -60,7 +60,7 @@ fn write(rt: &impl Abort, site: &mut MemSite, at: u64, bytes: &[u8]) -> Result<(
     site.write_part(at, bytes)
 }
 
-fn read(rt: &impl Abort, site: &mut MemSite, at: u64, out: &mut [u8]) -> Result<(), Failed> {
+fn read<S: Site>(rt: &impl Abort, site: &mut S, at: u64, out: &mut [u8]) -> Result<(), Failed> {
     let count = out.len() as u64;
     assert_eq!(rt; at % 512, 0);
     assert_eq!(rt; count % 512, 0);
@@ -71,13 +71,13 @@ fn read(rt: &impl Abort, site: &mut MemSite, at: u64, out: &mut [u8]) -> Result<
 }
 
 // The verdict without force.
-fn verdict(rt: &impl Abort, site: &mut MemSite) -> Result<Verdict, SiteFault> {
+fn verdict<S: Site>(rt: &impl Abort, site: &mut S) -> Result<Verdict, SiteFault> {
     assert!(rt; good_partition(site.size(), site.block()));
     judge(site, false)
 }
 
 // Why the partition is refused, or None where it is judged a dump.
-fn refusal(rt: &impl Abort, site: &mut MemSite) -> Result<Option<Why>, SiteFault> {
+fn refusal<S: Site>(rt: &impl Abort, site: &mut S) -> Result<Option<Why>, SiteFault> {
     match verdict(rt, site)? {
         Verdict::Refused(why) => Ok(Some(why)),
         Verdict::Dump { .. } => Ok(None),
@@ -85,7 +85,7 @@ fn refusal(rt: &impl Abort, site: &mut MemSite) -> Result<Option<Why>, SiteFault
 }
 
 // Whether the partition has these bytes from this place on.
-fn has(rt: &impl Abort, site: &mut MemSite, place: u32, bytes: &[u8]) -> Result<bool, Failed> {
+fn has<S: Site>(rt: &impl Abort, site: &mut S, place: u32, bytes: &[u8]) -> Result<bool, Failed> {
     let mut sector = [0; 512];
     for i in 0..bytes.len() / 512 {
         let from = i * 512;
@@ -98,9 +98,9 @@ fn has(rt: &impl Abort, site: &mut MemSite, place: u32, bytes: &[u8]) -> Result<
 }
 
 // Whether the partition is judged a dump with this header at this place, and has these bytes there.
-fn is_dump(
+fn is_dump<S: Site>(
     rt: &impl Abort,
-    site: &mut MemSite,
+    site: &mut S,
     header: &Header,
     place: u32,
     body: &[u8],
@@ -130,9 +130,9 @@ fn block_of(alloc: Global, sector: &[u8; 512], rest: u8) -> Result<Vec<u8>, Fail
 }
 
 // Writes those of a block's eight sectors whose bits are set.
-fn tear(
+fn tear<S: Site>(
     rt: &impl Abort,
-    site: &mut MemSite,
+    site: &mut S,
     at: u32,
     block: &[u8],
     sectors: u32,
@@ -165,17 +165,88 @@ fn cleared_partition(alloc: Global) -> Result<MemSite, Fail> {
     Ok(site)
 }
 
+// Writes a body behind its leading block, of which these sectors are new.
+fn write_torn_leading<S: Site>(
+    rt: &impl Abort,
+    site: &mut S,
+    body: &[u8],
+    block: &[u8],
+    sectors: u32,
+) -> Result<Option<Why>, Fail>
+    requires { length block.now ≡ 4096 }
+{
+    write(rt, site, 69632, body)?;
+    tear(rt, site, 65536, block, sectors)?;
+    Ok(refusal(rt, site)?)
+}
+
+fn is_cleared(
+    rt: &impl Abort,
+    alloc: Global,
+    body: &[u8],
+    block: &[u8],
+    sectors: u32,
+) -> Result<(), Fail>
+    requires { length block.now ≡ 4096 }
+{
+    let mut site = cleared_partition(alloc)?;
+    let why = write_torn_leading(rt, &mut site, body, block, sectors)?;
+    assert_eq!(rt; why, Some(Why::Cleared), "{sectors}");
+    Ok(())
+}
+
 #[test]
 fn a_torn_leading_block_is_no_dump(rt: HostRuntime) -> Result<(), Fail> {
     let alloc = rt.alloc();
     let body = vec![in alloc; 7; 32768]?;
     let block = block_of(alloc, &encode(&header(4096, 32768)), 0)?;
     for sectors in 0..256 {
-        let mut site = cleared_partition(alloc)?;
-        write(&rt, &mut site, 69632, &body)?;
-        tear(&rt, &mut site, 65536, &block, sectors)?;
-        assert_eq!(rt; refusal(&rt, &mut site)?, Some(Why::Cleared), "{sectors}");
+        is_cleared(&rt, alloc, &body, &block, sectors)?;
     }
+    Ok(())
+}
+
+// Writes a body and its leading block, and of the trailing block these sectors.
+fn write_torn_trailing<S: Site>(
+    rt: &impl Abort,
+    site: &mut S,
+    body: &[u8],
+    block: &[u8],
+    sectors: u32,
+) -> Result<(), Fail>
+    requires { length block.now ≡ 4096 }
+{
+    write(rt, site, 69632, body)?;
+    write(rt, site, 65536, block)?;
+    Ok(tear(rt, site, 102400, block, sectors)?)
+}
+
+// Whether the partition is a dump exactly where the first sector is new.
+fn is_dump_by_its_first<S: Site>(
+    rt: &impl Abort,
+    site: &mut S,
+    body: &[u8],
+    sectors: u32,
+) -> Result<bool, Fail> {
+    if sectors & 1 == 0 {
+        return Ok(refusal(rt, site)? == Some(Why::Cleared));
+    }
+    is_dump(rt, site, &header(4096, 32768), 69632, body)
+}
+
+fn tears_trailing(
+    rt: &impl Abort,
+    alloc: Global,
+    body: &[u8],
+    block: &[u8],
+    sectors: u32,
+) -> Result<(), Fail>
+    requires { length block.now ≡ 4096 }
+{
+    let mut site = cleared_partition(alloc)?;
+    write_torn_trailing(rt, &mut site, body, block, sectors)?;
+    let kept = is_dump_by_its_first(rt, &mut site, body, sectors)?;
+    assert!(rt; kept, "{sectors}");
     Ok(())
 }
 
@@ -183,21 +254,9 @@ fn a_torn_leading_block_is_no_dump(rt: HostRuntime) -> Result<(), Fail> {
 fn a_torn_trailing_block_is_a_dump_by_its_first_sector(rt: HostRuntime) -> Result<(), Fail> {
     let alloc = rt.alloc();
     let body = vec![in alloc; 7; 32768]?;
-    let header = header(4096, 32768);
-    let block = block_of(alloc, &encode(&header), 0)?;
+    let block = block_of(alloc, &encode(&header(4096, 32768)), 0)?;
     for sectors in 0..256 {
-        let mut site = cleared_partition(alloc)?;
-        write(&rt, &mut site, 69632, &body)?;
-        write(&rt, &mut site, 65536, &block)?;
-        tear(&rt, &mut site, 102400, &block, sectors)?;
-        if sectors & 1 == 0 {
-            assert_eq!(rt; refusal(&rt, &mut site)?, Some(Why::Cleared), "{sectors}");
-        } else {
-            assert!(rt;
-                is_dump(&rt, &mut site, &header, 69632, &body)?,
-                "{sectors}"
-            );
-        }
+        tears_trailing(&rt, alloc, &body, &block, sectors)?;
     }
     Ok(())
 }
@@ -221,141 +280,103 @@ fn refusal_of(
 fn check_changed(
     rt: &impl Abort,
     alloc: Global,
-    changed: &[u8; 512],
+    header: &Header,
     rule: Option<Why>,
     place: u16,
-) -> Result<(), Fail> {
+) -> Result<(), Fail>
+    requires { FitsFields header.now }
+{
     let old = encode(&small());
+    let changed = encode(header);
     let differs = Some(Why::Disagree(place));
     let by_rule = if rule.is_some() { rule } else { differs };
-    assert_eq!(rt;
-        refusal_of(rt, alloc, changed, &old)?,
-        by_rule,
-        "trailing, from {place} on"
-    );
-    assert_eq!(rt;
-        refusal_of(rt, alloc, &old, changed)?,
-        differs,
-        "leading, from {place} on"
-    );
-    assert_eq!(rt;
-        refusal_of(rt, alloc, changed, changed)?,
-        rule,
-        "both, from {place} on"
-    );
+    let why = refusal_of(rt, alloc, &changed, &old)?;
+    assert_eq!(rt; why, by_rule, "trailing, from {place} on");
+    let why = refusal_of(rt, alloc, &old, &changed)?;
+    assert_eq!(rt; why, differs, "leading, from {place} on");
+    let why = refusal_of(rt, alloc, &changed, &changed)?;
+    assert_eq!(rt; why, rule, "both, from {place} on");
     Ok(())
 }
 
-// The header of a dump of so many bytes, with all else as in the small one.
-fn sized(extent: u64) -> [u8; 512] {
-    encode(&header(512, extent))
+// The small header with another architecture.
+fn of_arch(name: &[u8], version: u32) -> Header
+    ensures { FitsFields result }
+{
+    Header {
+        architecture: Label::cut(name),
+        architectureversion: version,
+        ..small()
+    }
 }
 
 #[test]
-fn changed_fields_have_their_reasons(rt: HostRuntime) -> Result<(), Fail> {
+fn changed_architectures_have_their_reasons(rt: HostRuntime) -> Result<(), Fail> {
     let alloc = rt.alloc();
-    for (changed, rule, place) in [
-        (
-            encode(&Header {
-                architecture: Label::cut(b"riscv65"),
-                ..small()
-            }),
-            Some(Why::UnknownArch),
-            26,
-        ),
-        (
-            encode(&Header {
-                architecture: Label::cut(b"aarch64"),
-                ..small()
-            }),
-            None,
-            20,
-        ),
-        (
-            encode(&Header {
-                architectureversion: 2,
-                ..small()
-            }),
-            Some(Why::UnknownArch),
-            39,
-        ),
-        (
-            encode(&Header {
-                dumplength: 32767,
-                ..small()
-            }),
-            Some(Why::LengthDiffers(32767, 32768)),
-            46,
-        ),
-        (
-            encode(&Header {
-                dumptime: 1_700_000_001,
-                ..small()
-            }),
-            None,
-            55,
-        ),
-        (
-            encode(&Header {
-                dumpkeysize: 256,
-                ..small()
-            }),
-            Some(Why::Encrypted(256)),
-            58,
-        ),
-        (
-            encode(&Header {
-                blocksize: 1024,
-                ..small()
-            }),
-            Some(Why::BadBlock(1024)),
-            62,
-        ),
-        (
-            encode(&Header {
-                hostname: Label::cut(b"rw"),
-                ..small()
-            }),
-            None,
-            65,
-        ),
-        (
-            encode(&Header {
-                versionstring: Label::cut_version(b"FreeBSD 15"),
-                ..small()
-            }),
-            None,
-            137,
-        ),
-        (
-            encode(&Header {
-                panicstring: Label::cut(b"text"),
-                ..small()
-            }),
-            None,
-            322,
-        ),
-        (
-            encode(&Header {
-                compression: 1,
-                ..small()
-            }),
-            Some(Why::Compressed(1)),
-            495,
-        ),
-        (
-            encode(&Header {
-                dumpextent: 36864,
-                ..small()
-            }),
-            Some(Why::LengthDiffers(32768, 36864)),
-            502,
-        ),
-        (sized(0), Some(Why::BadExtent(0)), 46),
-        (sized(32512), Some(Why::BadExtent(32512)), 46),
-        (sized(65536), Some(Why::BadExtent(65536)), 45),
+    let unknown = Some(Why::UnknownArch);
+    check_changed(&rt, alloc, &of_arch(b"riscv65", 1), unknown, 26)?;
+    check_changed(&rt, alloc, &of_arch(b"aarch64", 1), None, 20)?;
+    check_changed(&rt, alloc, &of_arch(b"riscv64", 2), unknown, 39)
+}
+
+// The small header with other texts.
+fn of_texts(host: &[u8], version: &[u8], panic: &[u8]) -> Header
+    ensures { FitsFields result }
+{
+    Header {
+        hostname: Label::cut(host),
+        versionstring: Label::cut_version(version),
+        panicstring: Label::cut(panic),
+        ..small()
+    }
+}
+
+#[test]
+fn changed_texts_differ_at_their_places(rt: HostRuntime) -> Result<(), Fail> {
+    let alloc = rt.alloc();
+    let (host, version, panic) = (b"rv", b"FreeBSD 14", b"test");
+    check_changed(&rt, alloc, &of_texts(b"rw", version, panic), None, 65)?;
+    check_changed(&rt, alloc, &of_texts(host, b"FreeBSD 15", panic), None, 137)?;
+    check_changed(&rt, alloc, &of_texts(host, version, b"text"), None, 322)
+}
+
+#[test]
+fn changed_numbers_have_their_reasons(rt: HostRuntime) -> Result<(), Fail> {
+    let alloc = rt.alloc();
+    for (dumptime, dumpkeysize, blocksize, compression, rule, place) in [
+        (1_700_000_001, 0, 512, 0, None, 55),
+        (1_700_000_000, 256, 512, 0, Some(Why::Encrypted(256)), 58),
+        (1_700_000_000, 0, 1024, 0, Some(Why::BadBlock(1024)), 62),
+        (1_700_000_000, 0, 512, 1, Some(Why::Compressed(1)), 495),
     ] {
-        check_changed(&rt, alloc, &changed, rule, place)?;
+        let header = Header {
+            dumptime,
+            dumpkeysize,
+            blocksize,
+            compression,
+            ..small()
+        };
+        check_changed(&rt, alloc, &header, rule, place)?;
+    }
+    Ok(())
+}
+
+#[test]
+fn changed_lengths_have_their_reasons(rt: HostRuntime) -> Result<(), Fail> {
+    let alloc = rt.alloc();
+    for (dumplength, dumpextent, why, place) in [
+        (32767, 32768, Why::LengthDiffers(32767, 32768), 46),
+        (32768, 36864, Why::LengthDiffers(32768, 36864), 502),
+        (0, 0, Why::BadExtent(0), 46),
+        (32512, 32512, Why::BadExtent(32512), 46),
+        (65536, 65536, Why::BadExtent(65536), 45),
+    ] {
+        let header = Header {
+            dumplength,
+            dumpextent,
+            ..small()
+        };
+        check_changed(&rt, alloc, &header, Some(why), place)?;
     }
     Ok(())
 }
@@ -384,19 +405,27 @@ fn a_sector_torn_between_bytes_revives_a_cleared_dump(rt: HostRuntime) -> Result
     Ok(())
 }
 
+// Writes the dump of a body to a partition with blocks of 512.
+fn dump<S: Site>(rt: &impl Abort, site: &mut S, body: &[u8])
+    requires pages { length body.now % 4096 ≡ 0 }
+    requires small { length body.now ≤ 2 ^ 62 }
+{
+    assert!(rt; good_partition(site.size(), site.block()));
+    assert_eq!(rt; site.block(), 512);
+    let mut pieces = SlicePieces::new(body);
+    let header = header(512, body.len() as u64);
+    assert_eq!(rt;
+        write_dump(site, &mut pieces, &header, None),
+        Ok(Wrote::Whole)
+    );
+}
+
 #[test]
 fn a_dump_of_56_mb_is_found_on_64_mib(rt: HostRuntime) -> Result<(), Fail> {
     let alloc = rt.alloc();
     let body = vec![in alloc; 7; 56434688]?;
-    let header = header(512, 56434688);
     let mut site = partition(alloc, 67108864, 512)?;
-    assert!(rt; good_partition(site.size(), site.block()));
-    assert_eq!(rt; site.block(), 512);
-    let mut pieces = SlicePieces::new(&body);
-    assert_eq!(rt;
-        write_dump(&mut site, &mut pieces, &header, None),
-        Ok(Wrote::Whole)
-    );
-    assert!(rt; is_dump(&rt, &mut site, &header, 10673664, &body)?);
+    dump(&rt, &mut site, &body);
+    assert!(rt; is_dump(&rt, &mut site, &header(512, 56434688), 10673664, &body)?);
     Ok(())
 }

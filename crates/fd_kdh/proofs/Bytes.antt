@@ -23,7 +23,9 @@ AllBytes-from_All [] all = tt
 AllBytes-from_All (x ∷ xs) all = (All-head (λ byte. byte < 256) x xs all, AllBytes-from_All xs (All-tail (λ byte. byte < 256) x xs all))
 
 pub AllBytes-from_test : (xs : List ℕ) → list_all (λ byte. nat_lt byte 256) xs ≡ true → AllBytes xs
-AllBytes-from_test xs test = AllBytes-from_All xs (All-weaker (λ byte. nat_lt byte 256 ≡ true) (λ byte. byte < 256) (λ byte is. grind (arith, nat_tests)) xs (AllPass-from_list_all (λ byte. nat_lt byte 256) xs test))
+AllBytes-from_test xs test =
+    AllBytes-from_All xs (All-weaker (λ byte. nat_lt byte 256 ≡ true) (λ byte. byte < 256) (λ byte is. grind (arith, nat_tests)) xs
+    (AllPass-from_list_all (λ byte. nat_lt byte 256) xs test))
 
 pub AllBytes-append : (xs ys : List ℕ) → AllBytes xs → AllBytes ys → AllBytes (xs ++ ys)
 AllBytes-append [] ys a b = b

@@ -5,7 +5,8 @@ use Rattle.std.specs.List.{concat}
 use Rattle.std.specs.Str.{bytes_eq}
 use Rattle.fd_bytes.specs.Field.{u32_be_at, u64_be_at}
 use Rattle.fd_bytes.specs.Label.{IsText, text_of}
-use Rattle.fd_kdh.specs.Layout.{Magic, Architecture, Version, ArchitectureVersion, DumpLength, DumpTime, DumpKeySize, BlockSize, HostName, VersionString, PanicString, Compression, DumpExtent, bytes_of, size_of, start_of}
+use Rattle.fd_kdh.specs.Layout.{Magic, Architecture, Version, ArchitectureVersion, DumpLength, DumpTime, DumpKeySize, BlockSize, HostName}
+use Rattle.fd_kdh.specs.Layout.{VersionString, PanicString, Compression, DumpExtent, bytes_of, size_of, start_of}
 use Rattle.fd_kdh.specs.Parity.{words, xor_all}
 use Rattle.fd_kdh.specs.declared.header.Header.{Header}
 use Rattle.fd_kdh.specs.declared.header.HeaderFault.{HeaderFault}

@@ -1,3 +1,5 @@
+//! Headers as another program spells them, and the first fault of others.
+
 ghost use Rattle.fd_kdh.specs.Header.{FitsFields};
 
 use super::*;

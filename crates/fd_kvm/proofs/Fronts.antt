@@ -16,7 +16,9 @@ not_past : (byte_at : ℕ → Result ℕ AddressFault) (va count : ℕ) → va +
 not_past byte_at va count low = grind (arith, nat_tests)
 
 -- bytes that follow one another in the file
-pub bytes_of_run : (f : List ℕ) (byte_at : ℕ → Result ℕ AddressFault) (va place count : ℕ) → ((i : ℕ) → i < count → byte_at (va + i) ≡ Ok (slice_index f (place + i))) → place + count ≤ length f → bytes_from byte_at va count ≡ record { bytes = take count (drop place f); fault = None }
+pub bytes_of_run :
+    (f : List ℕ) (byte_at : ℕ → Result ℕ AddressFault) (va place count : ℕ) → ((i : ℕ) → i < count → byte_at (va + i) ≡ Ok (slice_index f (place + i)))
+    → place + count ≤ length f → bytes_from byte_at va count ≡ record { bytes = take count (drop place f); fault = None }
 unfolding bytes_from
 bytes_of_run f byte_at va place zero each inside = refl
 bytes_of_run f byte_at va place (suc count) each inside =
@@ -36,7 +38,9 @@ bytes_of_run f byte_at va place (suc count) each inside =
 abbrev pub followed_by : List ℕ → KernelBytes → KernelBytes
 followed_by bytes later = record { bytes = bytes ++ later.bytes; fault = later.fault }
 
-followed-byte : (byte_at : Result ℕ AddressFault) (one both later : KernelBytes) (bytes : List ℕ) → byte_before byte_at one ≡ record { bytes = bytes; fault = None } → ((rest : List ℕ) → one ≡ record { bytes = rest; fault = None } → both ≡ followed_by rest later) → byte_before byte_at both ≡ followed_by bytes later
+followed-byte :
+    (byte_at : Result ℕ AddressFault) (one both later : KernelBytes) (bytes : List ℕ) → byte_before byte_at one ≡ record { bytes = bytes; fault = None }
+    → ((rest : List ℕ) → one ≡ record { bytes = rest; fault = None } → both ≡ followed_by rest later) → byte_before byte_at both ≡ followed_by bytes later
 followed-byte (Err fault) one both later bytes is rest = absurd (let e : Some fault ≡ None = ap (λ (k : KernelBytes). k.fault) is in cc)
 followed-byte (Ok byte) one both later bytes is rest =
     let none : one.fault ≡ None = ap (λ (k : KernelBytes). k.fault) is in
@@ -44,7 +48,9 @@ followed-byte (Ok byte) one both later bytes is rest =
     let same : one ≡ record { bytes = one.bytes; fault = None } = ap (λ o. record { bytes = one.bytes; fault = o }) none in
     ap (byte_before (Ok byte)) (rest one.bytes same) ∙ ap (λ l. followed_by l later) list
 
-pub bytes_then : (byte_at : ℕ → Result ℕ AddressFault) (va count more : ℕ) (bytes : List ℕ) → bytes_from byte_at va count ≡ record { bytes = bytes; fault = None } → bytes_from byte_at va (count + more) ≡ followed_by bytes (bytes_from byte_at (va + count) more)
+pub bytes_then :
+    (byte_at : ℕ → Result ℕ AddressFault) (va count more : ℕ) (bytes : List ℕ) → bytes_from byte_at va count ≡ record { bytes = bytes; fault = None }
+    → bytes_from byte_at va (count + more) ≡ followed_by bytes (bytes_from byte_at (va + count) more)
 unfolding bytes_from
 bytes_then byte_at va zero more bytes is =
     let none : [] ≡ bytes = ap (λ (k : KernelBytes). k.bytes) is in
@@ -59,20 +65,25 @@ bytes_then byte_at va (suc count) more bytes is =
     bytes_then byte_at (va + 1) count more rest front ∙ ap (λ a. followed_by rest (bytes_from byte_at a more)) next_va)
 
 -- a fault of the first address
-pub fault_first : (byte_at : ℕ → Result ℕ AddressFault) (va count : ℕ) (fault : AddressFault) → 0 < count → byte_at va ≡ Err fault → bytes_from byte_at va count ≡ record { bytes = []; fault = Some fault }
+pub fault_first :
+    (byte_at : ℕ → Result ℕ AddressFault) (va count : ℕ) (fault : AddressFault) → 0 < count → byte_at va ≡ Err fault
+    → bytes_from byte_at va count ≡ record { bytes = []; fault = Some fault }
 unfolding bytes_from
 fault_first byte_at va zero fault some is = absurd (omega arith)
 fault_first byte_at va (suc count) fault some is = ap (λ r. byte_before r (bytes_from byte_at (va + 1) count)) is
 
 -- bytes of the file that were read to the front of a buffer
-pub front_read : (f old read : List ℕ) (byte_at : ℕ → Result ℕ AddressFault) (va count : ℕ) (run : Run) → IsRun f byte_at va run → count ≤ run.len → count ≤ length old → read ≡ slice_range f run.place (run.place + length (take count old)) → IsFront byte_at va old (read ++ drop count old) count
+pub front_read :
+    (f old read : List ℕ) (byte_at : ℕ → Result ℕ AddressFault) (va count : ℕ) (run : Run) → IsRun f byte_at va run → count ≤ run.len → count ≤ length old
+    → read ≡ slice_range f run.place (run.place + length (take count old)) → IsFront byte_at va old (read ++ drop count old) count
 front_read f old read byte_at va count run is few room bytes =
     let inside : run.place + count ≤ length f = omega (arith, is.inside) in
     let size : run.place + length (take count old) - run.place ≡ count = omega (arith, length-take-le count old room) in
     let same : read ≡ take count (drop run.place f) = bytes ∙ ap (λ n. take n (drop run.place f)) size in
     let whole : length read ≡ count = ap (λ (l : List ℕ). length l) same ∙ length-take-le count (drop run.place f) (omega (arith, length-drop run.place f)) in
     record {
-      bytes = bytes_of_run f byte_at va run.place count (λ i below. is.bytes i (omega arith)) inside ∙ ap (λ (l : List ℕ). record { bytes = l; fault = None }) (sym same ∙ sym (take_at read (drop count old) count whole));
+      bytes = bytes_of_run f byte_at va run.place count (λ i below. is.bytes i (omega arith)) inside
+          ∙ ap (λ (l : List ℕ). record { bytes = l; fault = None }) (sym same ∙ sym (take_at read (drop count old) count whole));
       rest = drop_at read (drop count old) count whole;
     }
 
@@ -82,11 +93,14 @@ unfolding bytes_from
 front_none byte_at va old = record { bytes = refl; rest = refl }
 
 -- more bytes behind those at the front
-pub front_more : (byte_at : ℕ → Result ℕ AddressFault) (va at count : ℕ) (old new rest : List ℕ) → IsFront byte_at va old new at → at ≤ length new → IsFront byte_at (va + at) (drop at new) rest count → IsFront byte_at va old (take at new ++ rest) (at + count)
+pub front_more :
+    (byte_at : ℕ → Result ℕ AddressFault) (va at count : ℕ) (old new rest : List ℕ) → IsFront byte_at va old new at → at ≤ length new
+    → IsFront byte_at (va + at) (drop at new) rest count → IsFront byte_at va old (take at new ++ rest) (at + count)
 front_more byte_at va at count old new rest front inside more =
     let whole : length (take at new) ≡ at = length-take-le at new inside in
     let split : take (at + count) (take at new ++ rest) ≡ take at new ++ take count rest =
-    take-add at count (take at new ++ rest) ∙ ap (λ l. l ++ take count (drop at (take at new ++ rest))) (take_at (take at new) rest at whole) ∙ ap (λ l. take at new ++ take count l) (drop_at (take at new) rest at whole) in
+    take-add at count (take at new ++ rest) ∙ ap (λ l. l ++ take count (drop at (take at new ++ rest))) (take_at (take at new) rest at whole)
+    ∙ ap (λ l. take at new ++ take count l) (drop_at (take at new) rest at whole) in
     record {
       bytes =
           bytes_then byte_at va at count (take at new) front.bytes
@@ -101,21 +115,27 @@ front_more byte_at va at count old new rest front inside more =
     }
 
 -- a read that came to its end
-pub whole_read : (byte_at : ℕ → Result ℕ AddressFault) (va at : ℕ) (old new : List ℕ) (done : Unit {0}) → IsFront byte_at va old new at → length new ≡ length old → length new ≤ at → at ≤ length new → va + length old ≤ 2 ^ 64 → IsRead (kernel_bytes byte_at va (length old)) old new (Ok done)
+pub whole_read :
+    (byte_at : ℕ → Result ℕ AddressFault) (va at : ℕ) (old new : List ℕ) (done : Unit {0}) → IsFront byte_at va old new at → length new ≡ length old
+    → length new ≤ at → at ≤ length new → va + length old ≤ 2 ^ 64 → IsRead (kernel_bytes byte_at va (length old)) old new (Ok done)
 whole_read byte_at va at old new done front same end inside low =
     let all : kernel_bytes byte_at va (length old) ≡ record { bytes = new; fault = None } =
     not_past byte_at va (length old) low ∙ ap (bytes_from byte_at va) (omega arith) ∙ front.bytes ∙ ap (λ (l : List ℕ). record { bytes = l; fault = None }) (take_all at new end) in
     (ap (λ (k : KernelBytes). k.fault) all, sym (ap (λ (k : KernelBytes). k.bytes) all))
 
 -- a read that ended at an address without a byte, or at a fault of the site
-pub ended_read : (byte_at : ℕ → Result ℕ AddressFault) (va at : ℕ) (old new rest : List ℕ) (fault : ReadFault) → IsFront byte_at va old new at → length new ≡ length old → at < length new → va + length old ≤ 2 ^ 64 → IsStep byte_at (va + at) (drop at new) rest (Err fault) → IsRead (kernel_bytes byte_at va (length old)) old (take at new ++ rest) (Err fault)
+pub ended_read :
+    (byte_at : ℕ → Result ℕ AddressFault) (va at : ℕ) (old new rest : List ℕ) (fault : ReadFault) → IsFront byte_at va old new at → length new ≡ length old
+    → at < length new → va + length old ≤ 2 ^ 64 → IsStep byte_at (va + at) (drop at new) rest (Err fault)
+    → IsRead (kernel_bytes byte_at va (length old)) old (take at new ++ rest) (Err fault)
 ended_read byte_at va at old new rest SiteFault front same inside low step = tt
 ended_read byte_at va at old new rest (Address fault) front same inside low step =
     let count = length old - at in
     let split : length old ≡ at + count = omega arith in
     let whole : length (take at new ++ []) ≡ at = ap (λ (l : List ℕ). length l) (append-nil (take at new)) ∙ length-take-le at new (omega arith) in
     let all : kernel_bytes byte_at va (length old) ≡ record { bytes = take at new ++ []; fault = Some fault } =
-    not_past byte_at va (length old) low ∙ ap (bytes_from byte_at va) split ∙ bytes_then byte_at va at count (take at new) front.bytes ∙ ap (followed_by (take at new)) (fault_first byte_at (va + at) count fault (omega arith) step.0) in
+    not_past byte_at va (length old) low ∙ ap (bytes_from byte_at va) split ∙ bytes_then byte_at va at count (take at new) front.bytes
+    ∙ ap (followed_by (take at new)) (fault_first byte_at (va + at) count fault (omega arith) step.0) in
     let kept : take at new ++ rest ≡ (take at new ++ []) ++ drop (length (take at new ++ [])) old =
     ap (λ l. take at new ++ l) (step.1 ∙ front.rest) ∙ ap (λ l. l ++ drop at old) (sym (append-nil (take at new))) ∙ ap (λ n. (take at new ++ []) ++ drop n old) (sym whole) in
     (ap (λ (k : KernelBytes). k.fault) all, kept ∙ ap (λ (l : List ℕ). l ++ drop (length l) old) (sym (ap (λ (k : KernelBytes). k.bytes) all)))

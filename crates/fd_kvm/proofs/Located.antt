@@ -23,12 +23,16 @@ undumped f s va span some is none =
     let here : placed f s va ≡ Ok span.pa = ap (placed f s) (sym zero_va) ∙ is 0 some ∙ ap (λ n. Ok n) zero_pa in
     ap (by_physical f s va) here ∙ ap (by_offset f va span.pa) none
 
-next_byte : (f : List ℕ) (s : Sections) (va pa page i : ℕ) → placed f s (va + i) ≡ Ok (pa + i) → page_offset s pa ≡ Some page → i < 4096 - pa % 4096 → byte_in f s (va + i) ≡ Ok (slice_index f (page + pa % 4096 + i))
+next_byte :
+    (f : List ℕ) (s : Sections) (va pa page i : ℕ) → placed f s (va + i) ≡ Ok (pa + i) → page_offset s pa ≡ Some page → i < 4096 - pa % 4096
+    → byte_in f s (va + i) ≡ Ok (slice_index f (page + pa % 4096 + i))
 next_byte f s va pa page i is found within =
     let place : page + (pa + i) % 4096 ≡ page + pa % 4096 + i = omega arith in
     ap (by_physical f s (va + i)) is ∙ ap (by_offset f (va + i) (pa + i)) (same_page s pa i within ∙ found) ∙ ap (λ n. Ok (slice_index f n)) place
 
-pub dumped : (f : List ℕ) (s : Sections) (va : ℕ) (span : Span) (page : ℕ) → opened f ≡ Ok s → IsSpan (placed f s) va (Ok span) → page_offset s span.pa ≡ Some page → IsRun f (byte_in f s) va (record { place = page + span.pa % 4096; len = min span.len (4096 - span.pa % 4096) })
+pub dumped :
+    (f : List ℕ) (s : Sections) (va : ℕ) (span : Span) (page : ℕ) → opened f ≡ Ok s → IsSpan (placed f s) va (Ok span) → page_offset s span.pa ≡ Some page
+    → IsRun f (byte_in f s) va (record { place = page + span.pa % 4096; len = min span.len (4096 - span.pa % 4096) })
 dumped f s va span page stands is found =
     let room = page_inside f s span.pa page (whole f s stands) found in
     record {

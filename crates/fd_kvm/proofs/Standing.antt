@@ -22,21 +22,27 @@ entry_room None s index stands below = stands
 entry_room (Some f) s index stands below = entry_inside f s index (whole f s stands) below
 
 -- and so does an entry of a page table that is dumped
-pub table_room : (file : Option (List ℕ)) (s : Sections) (table place index : ℕ) → Opens file s → page_offset s table ≡ Some place → index < 512 → IsSomeAnd file (λ f. place + 8 * index + 8 ≤ length f)
+pub table_room :
+    (file : Option (List ℕ)) (s : Sections) (table place index : ℕ) → Opens file s → page_offset s table ≡ Some place → index < 512
+    → IsSomeAnd file (λ f. place + 8 * index + 8 ≤ length f)
 table_room None s table place index stands found below = stands
 table_room (Some f) s table place index stands found below =
     let inside = page_inside f s table place (whole f s stands) found in
     omega arith
 
 -- and what is read of what lies in it
-pub part_room : (file : Option (List ℕ)) (s : Sections) (place len count : ℕ) → Opens file s → ((f : List ℕ) → file ≡ Some f → place + len ≤ length f) → count ≤ len → IsSomeAnd file (λ f. place + count ≤ length f)
+pub part_room :
+    (file : Option (List ℕ)) (s : Sections) (place len count : ℕ) → Opens file s → ((f : List ℕ) → file ≡ Some f → place + len ≤ length f) → count ≤ len
+    → IsSomeAnd file (λ f. place + count ≤ length f)
 part_room None s place len count stands inside few = stands
 part_room (Some f) s place len count stands inside few =
     let room = inside f refl in
     omega arith
 
 -- the bytes that were read of a file of this name
-pub read_part : (told : Contents) (name same_name : List ℕ) (f bytes : List ℕ) (from to : ℕ) → name ≡ same_name → file_of told same_name ≡ Some f → IfSome (file_of told name) (λ f. bytes ≡ slice_range f from to) → bytes ≡ slice_range f from to
+pub read_part :
+    (told : Contents) (name same_name : List ℕ) (f bytes : List ℕ) (from to : ℕ) → name ≡ same_name → file_of told same_name ≡ Some f
+    → IfSome (file_of told name) (λ f. bytes ≡ slice_range f from to) → bytes ≡ slice_range f from to
 read_part told name same_name f bytes from to same there read =
     let P : List ℕ → Type 0 = λ q. IfSome (file_of told q) (λ l. bytes ≡ slice_range l from to) in
     let Q : Option (List ℕ) → Type 0 = λ o. IfSome o (λ l. bytes ≡ slice_range l from to) in

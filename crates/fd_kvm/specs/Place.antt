@@ -1,22 +1,18 @@
 -- The physical address that a kernel address of a vmcore stands for, or why it stands for none.
 -- Source: _kvm_minidump_vatop of libkvm (lib/libkvm/kvm_minidump_amd64.c, kvm_minidump_aarch64.c, kvm_minidump_riscv.c).
-use Rattle.std.specs.Prelude.{ℕ, ◌+◌, ◌-◌, ◌*◌, ◌/◌, ◌%◌, Bool, true, false, ◌&&◌, nat_le, nat_lt, if◌then◌else◌, List, Option, Some, None, Result, Ok, Err}
+use Rattle.std.specs.Prelude.{ℕ, ◌+◌, ◌-◌, ◌*◌, ◌/◌, ◌%◌, Bool, ◌&&◌, nat_le, nat_lt, if◌then◌else◌, List, Option, Some, None, Result, Ok, Err}
 use Rattle.fd_bytes.specs.Field.{u64_le_at}
+use Rattle.fd_bytes.specs.Profile.{profile_of}
 use Rattle.fd_bytes.specs.declared.arch.Arch.{Arch}
-use Rattle.fd_bytes.specs.declared.arch.Arch.TheVariants.{Amd64, Arm64, Riscv}
 use Rattle.fd_pte.specs.Architecture.{directory_height_of, kind_of}
-use Rattle.fd_pte.specs.Entry.{bytes_under}
 use Rattle.fd_pte.specs.declared.entry.Kind.{Kind}
 use Rattle.fd_pte.specs.declared.entry.Kind.TheVariants.{Absent, Table, Leaf}
+use Rattle.fd_mini.specs.Layout.{unit_of}
 use Rattle.fd_mini.specs.Places.{places_of}
 use Rattle.fd_mini.specs.declared.header.MiniHeader.{MiniHeader}
 use Rattle.fd_mini.specs.declared.address_fault.AddressFault.{AddressFault}
 use Rattle.fd_mini.specs.declared.address_fault.AddressFault.TheVariants.{NotMapped, TableMissing, Outside}
 use Rattle.fd_vmcore.specs.Sections.{Sections, page_offset}
-
--- how many addresses an entry of the directory maps
-abbrev pub unit_of : MiniHeader → ℕ
-unit_of h = bytes_under (directory_height_of h.arch)
 
 -- the index of the directory's entry for an address at or behind the directory's first
 abbrev pub entry_index : MiniHeader → ℕ → ℕ
@@ -63,15 +59,13 @@ abbrev pub by_direct_map : MiniHeader → ℕ → Result ℕ AddressFault
 by_direct_map h va = Ok (va - h.dmapbase + h.dmapphys)
 
 -- whether an address is looked for in the kernel window first, and not in the direct map
-abbrev pub window_is_first : Arch → Bool
-window_is_first Amd64 = true
-window_is_first Arm64 = false
-window_is_first Riscv = false
+abbrev pub window_is_first : MiniHeader → Bool
+window_is_first h = (profile_of h.arch).window_is_first
 
 -- the physical address of a kernel address
 unfoldable pub placed : List ℕ → Sections → ℕ → Result ℕ AddressFault
 placed f s va =
-    if window_is_first s.header.arch && is_in_kernel_window s.header va then by_directory f s va
+    if window_is_first s.header && is_in_kernel_window s.header va then by_directory f s va
     else if is_in_direct_map s.header va then by_direct_map s.header va
     else if is_in_kernel_window s.header va then by_directory f s va
     else Err (Outside va)

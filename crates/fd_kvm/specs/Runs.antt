@@ -1,10 +1,11 @@
 -- What the parts of a read answer. No public clause cites these.
 use Rattle.std.specs.Prelude.{◌≡◌, ℕ, ◌+◌, ◌-◌, ◌%◌, ◌<◌, ◌≤◌, Bool, ◌&&◌, ◌||◌, not, nat_lt, if◌then◌else◌, min, List, length, slice_index, take, drop, None, Result, Ok, Err}
 use Rattle.fd_mini.specs.Kernel.{bytes_from}
+use Rattle.fd_mini.specs.Layout.{unit_of}
 use Rattle.fd_mini.specs.declared.header.MiniHeader.{MiniHeader}
 use Rattle.fd_mini.specs.declared.address_fault.AddressFault.{AddressFault}
 use Rattle.fd_mini.specs.declared.address_fault.AddressFault.TheVariants.{PastTop}
-use Rattle.fd_kvm.specs.Place.{unit_of, is_in_kernel_window, is_in_direct_map, window_is_first}
+use Rattle.fd_kvm.specs.Place.{is_in_kernel_window, is_in_direct_map, window_is_first}
 use Rattle.fd_kvm.specs.declared.fault.ReadFault.{ReadFault}
 use Rattle.fd_kvm.specs.declared.fault.ReadFault.TheVariants.{Address, SiteFault}
 use Rattle.fd_kvm.specs.declared.run.Run.{Run}
@@ -24,7 +25,7 @@ window_limit h va = min (unit_of h - unit_offset h va) (up_to va h.dmapbase)
 
 -- an address is looked for in the kernel window
 abbrev pub is_by_window : MiniHeader → ℕ → Bool
-is_by_window h va = is_in_kernel_window h va && (window_is_first h.arch || not (is_in_direct_map h va))
+is_by_window h va = is_in_kernel_window h va && (window_is_first h || not (is_in_direct_map h va))
 
 -- The physical addresses that some kernel addresses stand for, one after another, or why the first stands for none.
 abbrev pub IsSpan : (ℕ → Result ℕ AddressFault) → (va : ℕ) → Result Span ReadFault → Type 0

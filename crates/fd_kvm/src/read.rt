@@ -1,12 +1,12 @@
 //! Reading kernel memory.
-ghost use Rattle.std.specs.Prelude.{◌≡◌, ℕ, ◌+◌, ◌^◌, ◌<◌, ◌≤◌, ◌↔◌, List, Some, Err, length};
+ghost use Rattle.std.specs.Prelude.{◌≡◌, ℕ, ◌+◌, ◌^◌, ◌<◌, ◌≤◌, ◌↔◌, List, Some, Err, IsErrOf, length};
 ghost use Rattle.fd_site.specs.Contents.{Told, file_of};
 ghost use Rattle.fd_site.specs.Fault.{Rose};
+ghost use Rattle.fd_site.specs.Seen.{Untouched};
 ghost use Rattle.fd_mini.specs.declared.address_fault.AddressFault.TheVariants.{PastTop};
 ghost use Rattle.fd_kvm.specs.Answer.{bytes_in};
-ghost use Rattle.fd_kvm.specs.Cause.{OnSiteFault};
 ghost use Rattle.fd_kvm.specs.Reader.{IsRead, StandsFor};
-ghost use Rattle.fd_kvm.specs.declared.fault.ReadFault.TheVariants.{Address};
+ghost use Rattle.fd_kvm.specs.declared.fault.ReadFault.TheVariants.{Address, SiteFault};
 
 use crate::fault::ReadFault;
 use crate::reader::Kvm;

@@ -1,11 +1,12 @@
 //! A reader of one vmcore.
-ghost use Rattle.std.specs.Prelude.{◌≡◌, ◌^◌, ◌<◌, ◌≤◌, IfOk, IfSome, IsTrue};
+ghost use Rattle.std.specs.Prelude.{◌≡◌, ◌^◌, ◌<◌, ◌≤◌, IfOk, IfSome, IsErrOf, IsTrue};
 ghost use Rattle.fd_site.specs.Contents.{Told, file_of};
 ghost use Rattle.fd_site.specs.Fault.{Rose};
 ghost use Rattle.fd_site.specs.Name.{is_good_name};
+ghost use Rattle.fd_site.specs.Seen.{Untouched};
 ghost use Rattle.fd_mini.specs.Places.{places_of};
-ghost use Rattle.fd_vmcore.specs.Cause.{OnSiteFault};
-ghost use Rattle.fd_vmcore.specs.Sections.{IsOpening, opened_file, page_offset};
+ghost use Rattle.fd_vmcore.specs.Sections.{IsOpening, page_offset};
+ghost use Rattle.fd_vmcore.specs.declared.open.OpenFault.TheVariants.{SiteFault};
 ghost use Rattle.fd_kvm.specs.Reader.{StandsFor, sections_of};
 
 use fd_mini::MiniHeader;
@@ -24,6 +25,7 @@ pub struct Kvm {
 impl Model for Kvm {
     ghost use Rattle.std.specs.Prelude.{IsTrue, string_bytes};
     ghost use Rattle.fd_site.specs.Name.{is_good_name};
+    ghost use Rattle.fd_site.specs.Seen.{Untouched};
     ghost use Rattle.fd_kvm.specs.Reader.{Reader};
 
     ghost Value = { Reader };
@@ -37,7 +39,7 @@ impl Kvm {
     /// Opens the file of this name, or answers the first reason to refuse it.
     pub fn open<S: Site>(alloc: Global, site: &mut S, name: &str) -> Result<Kvm, OpenFault>
         requires { IsTrue (is_good_name name.now) }
-        ensures opening { Told (S.seen site.old).told (λ c. IsOpening (opened_file (file_of c name.now)) (sections_of result)) }
+        ensures opening { Told (S.seen site.old).told (λ c. IsOpening (file_of c name.now) (sections_of result)) }
         ensures name { IfOk result (λ kvm. kvm.name ≡ name.now) }
         ensures stands { IfOk result (λ kvm. Told (S.seen site.new).told (StandsFor kvm)) }
         ensures untouched { Untouched (S.seen site.old) (S.seen site.new) }

@@ -1,13 +1,14 @@
 //! Kernel addresses whose bytes follow one another in the file.
-ghost use Rattle.std.specs.Prelude.{◌≡◌, ℕ, ◌+◌, ◌<◌, ◌≤◌, List, Some, IfOk, length};
+ghost use Rattle.std.specs.Prelude.{◌≡◌, ℕ, ◌+◌, ◌<◌, ◌≤◌, List, Some, IfOk, IsErrOf, length};
 ghost use Rattle.fd_site.specs.Contents.{Told, file_of};
 ghost use Rattle.fd_site.specs.Fault.{Rose};
+ghost use Rattle.fd_site.specs.Seen.{Untouched};
 ghost use Rattle.fd_vmcore.specs.Sections.{opened};
 ghost use Rattle.fd_kvm.specs.Answer.{byte_in};
-ghost use Rattle.fd_kvm.specs.Cause.{OnSiteFault};
 ghost use Rattle.fd_kvm.specs.Place.{placed};
 ghost use Rattle.fd_kvm.specs.Reader.{StandsFor};
 ghost use Rattle.fd_kvm.specs.Runs.{IsLocated, IsOfAddress, IsSpan, IsStep};
+ghost use Rattle.fd_kvm.specs.declared.fault.ReadFault.TheVariants.{SiteFault};
 
 use crate::fault::ReadFault;
 use crate::reader::Kvm;
@@ -66,7 +67,7 @@ impl Kvm {
             → IsLocated f (byte_in f self.now.sections) va result }
         ensures some { IfOk result (λ run. 0 < run.len) }
         ensures fault { IsOfAddress result }
-        ensures no_fault { OnSiteFault result ⊥ }
+        ensures no_fault { IsErrOf result SiteFault → ⊥ }
     {
         match self.find(span.pa) {
             Some(page) => {

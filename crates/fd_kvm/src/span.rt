@@ -1,18 +1,20 @@
 //! The physical addresses that kernel addresses stand for.
-ghost use Rattle.std.specs.Prelude.{◌≡◌, ℕ, ◌+◌, ◌-◌, ◌*◌, ◌%◌, ◌<◌, ◌≤◌, ◌^◌, List, Some, IfOk, IsTrue, IsSomeAnd, OnErr, length, min};
+ghost use Rattle.std.specs.Prelude.{◌≡◌, ℕ, ◌+◌, ◌-◌, ◌*◌, ◌%◌, ◌<◌, ◌≤◌, ◌^◌, List, Some, IfOk, IsErrOf, IsTrue, IsSomeAnd, OnErr, length, min};
 ghost use Rattle.fd_site.specs.Contents.{Told, file_of};
 ghost use Rattle.fd_site.specs.Fault.{Rose};
+ghost use Rattle.fd_site.specs.Seen.{Untouched};
 ghost use Rattle.fd_bytes.specs.Field.{u64_le_at};
 ghost use Rattle.fd_vmcore.specs.Sections.{page_offset};
-ghost use Rattle.fd_kvm.specs.Cause.{OnSiteFault};
-ghost use Rattle.fd_kvm.specs.Place.{unit_of, is_in_kernel_window, is_in_direct_map, window_is_first, entry_index, by_entry, by_table, placed};
+ghost use Rattle.fd_mini.specs.Layout.{unit_of};
+ghost use Rattle.fd_kvm.specs.Place.{is_in_kernel_window, is_in_direct_map, entry_index, by_entry, by_table, placed};
 ghost use Rattle.fd_kvm.specs.Reader.{StandsFor};
 ghost use Rattle.fd_kvm.specs.Runs.{IsOfAddress, IsSpan, is_by_window, unit_offset, up_to, window_limit};
+ghost use Rattle.fd_kvm.specs.declared.fault.ReadFault.TheVariants.{SiteFault};
 
 use crate::fault::ReadFault;
 use crate::reader::Kvm;
-use fd_bytes::{Arch, get_u64_le};
-use fd_mini::{AddressFault, MiniHeader};
+use fd_bytes::get_u64_le;
+use fd_mini::{AddressFault, MiniHeader, unit_of};
 use fd_pte::{Kind, directory_height, entry_kind};
 use fd_site::{Failed, Site};
 
@@ -115,27 +117,6 @@ impl Kvm {
     }
 }
 
-fn window_is_first(arch: Arch) -> bool
-    ensures { result ≡ window_is_first arch }
-{
-    match arch {
-        Arch::Amd64 => true,
-        Arch::Arm64 | Arch::Riscv => false,
-    }
-}
-
-// How many addresses an entry of the directory maps.
-fn unit_of(header: &MiniHeader) -> u64
-    ensures value { result ≡ unit_of header.now }
-    ensures some { 0 < result }
-    ensures small { result ≤ 2 ^ 21 }
-{
-    match header.arch {
-        Arch::Amd64 => 1 << 21,
-        Arch::Arm64 | Arch::Riscv => 4096,
-    }
-}
-
 fn entry_index(header: &MiniHeader, va: u64) -> u64
     requires { header.now.kernbase ≤ va }
     ensures { result ≡ entry_index header.now va }
@@ -160,7 +141,7 @@ fn is_by_window(header: &MiniHeader, va: u64) -> bool
     ensures { result ≡ is_by_window header.now va }
 {
     is_in_kernel_window(header, va)
-        && (window_is_first(header.arch) || !is_in_direct_map(header, va))
+        && (header.arch.profile().window_is_first || !is_in_direct_map(header, va))
 }
 
 // How many addresses there are up to one that lies above, if it does.

@@ -5,7 +5,7 @@ use crate::{Kvm, ReadFault};
 use fd_bytes::{Arch, put_u64_le};
 use fd_fake::MemSite;
 use fd_mini::{AddressFault, MiniHeader, write_header};
-use fd_site::good_name;
+use fd_site::{Site, good_name};
 use fd_vmcore::OpenFault;
 use std::alloc::{AllocError, Global};
 use std::process::Abort;
@@ -86,7 +86,24 @@ fn amd64_file(alloc: Global) -> Result<Vec<u8>, AllocError> {
     Ok(bytes)
 }
 
-// Reads as many bytes as are wanted, over a buffer of nines.
+// Reads as many bytes of the site's file as are wanted, over a buffer of nines.
+fn reads_of<S: Site>(
+    rt: &impl Abort,
+    alloc: Global,
+    site: &mut S,
+    va: u64,
+    wanted: &[u8],
+    answer: Result<(), ReadFault>,
+) -> Result<(), Fail> {
+    assert!(rt; good_name("vmcore.0"));
+    let kvm = Kvm::open(alloc, site, "vmcore.0").expect(rt, "a good file");
+    let mut out = vec![in alloc; 9u8; wanted.len()]?;
+    let read = kvm.read(site, va, out.as_mut_slice());
+    assert!(rt; read == answer && out.as_slice() == wanted, "at {va}");
+    Ok(())
+}
+
+// The same of a file of these bytes.
 fn reads(
     rt: &impl Abort,
     alloc: Global,
@@ -95,17 +112,9 @@ fn reads(
     wanted: &[u8],
     answer: Result<(), ReadFault>,
 ) -> Result<(), Fail> {
-    assert!(rt; good_name("vmcore.0"));
     let mut site = MemSite::new(alloc, 512, 512, Vec::new(alloc))?;
     site.preset_file("vmcore.0", bytes)?;
-    let kvm = Kvm::open(alloc, &mut site, "vmcore.0").expect(rt, "a good file");
-    let mut out = vec![in alloc; 9u8; wanted.len()]?;
-    assert_eq!(rt;
-        kvm.read(&mut site, va, out.as_mut_slice()),
-        answer,
-        "at {va}"
-    );
-    assert_eq!(rt; out.as_slice(), wanted, "at {va}");
+    reads_of(rt, alloc, &mut site, va, wanted, answer)?;
     assert_eq!(rt; site.starved(), 0);
     Ok(())
 }
@@ -117,129 +126,86 @@ fn address(fault: AddressFault) -> Result<(), ReadFault> {
 #[test]
 fn bytes_come_from_page_after_page(rt: HostRuntime) -> Result<(), Fail> {
     let alloc = rt.alloc();
-    reads(
-        &rt,
-        alloc,
-        riscv_file(alloc)?,
-        DMAPBASE + 0x1ffe,
-        &[1, 1, 2, 2],
-        Ok(()),
-    )?;
-    reads(
-        &rt,
-        alloc,
-        riscv_file(alloc)?,
-        KERNBASE + 0xffd,
-        &[4, 4, 4],
-        Ok(()),
-    )?;
-    reads(&rt, alloc, riscv_file(alloc)?, u64::MAX, &[], Ok(()))
+    let rows: [(u64, &[u8]); 3] = [
+        (DMAPBASE + 0x1ffe, &[1, 1, 2, 2]),
+        (KERNBASE + 0xffd, &[4, 4, 4]),
+        (u64::MAX, &[]),
+    ];
+    for (va, wanted) in rows {
+        reads(&rt, alloc, riscv_file(alloc)?, va, wanted, Ok(()))?;
+    }
+    Ok(())
 }
 
 #[test]
 fn a_read_ends_at_the_first_address_without_a_byte(rt: HostRuntime) -> Result<(), Fail> {
     let alloc = rt.alloc();
-    let not_dumped = AddressFault::NotDumped(DMAPBASE + 0x3000);
-    reads(
-        &rt,
-        alloc,
-        riscv_file(alloc)?,
-        DMAPBASE + 0x2ffd,
-        &[2, 2, 2, 9, 9],
-        address(not_dumped),
-    )?;
-    let not_dumped = AddressFault::NotDumped(KERNBASE + 0x1000);
-    reads(
-        &rt,
-        alloc,
-        riscv_file(alloc)?,
-        KERNBASE + 0xfff,
-        &[4, 9],
-        address(not_dumped),
-    )?;
-    let not_mapped = AddressFault::NotMapped(KERNBASE + 0x2000);
-    reads(
-        &rt,
-        alloc,
-        riscv_file(alloc)?,
-        KERNBASE + 0x2000,
-        &[9],
-        address(not_mapped),
-    )?;
-    reads(
-        &rt,
-        alloc,
-        riscv_file(alloc)?,
-        1,
-        &[9, 9],
-        address(AddressFault::Outside(1)),
-    )?;
-    reads(
-        &rt,
-        alloc,
-        riscv_file(alloc)?,
-        u64::MAX,
-        &[9],
-        address(AddressFault::Outside(u64::MAX)),
-    )?;
-    reads(
-        &rt,
-        alloc,
-        riscv_file(alloc)?,
-        u64::MAX,
-        &[9, 9],
-        address(AddressFault::PastTop),
-    )
+    let rows: [(u64, &[u8], AddressFault); 6] = [
+        (
+            DMAPBASE + 0x2ffd,
+            &[2, 2, 2, 9, 9],
+            AddressFault::NotDumped(DMAPBASE + 0x3000),
+        ),
+        (
+            KERNBASE + 0xfff,
+            &[4, 9],
+            AddressFault::NotDumped(KERNBASE + 0x1000),
+        ),
+        (
+            KERNBASE + 0x2000,
+            &[9],
+            AddressFault::NotMapped(KERNBASE + 0x2000),
+        ),
+        (1, &[9, 9], AddressFault::Outside(1)),
+        (u64::MAX, &[9], AddressFault::Outside(u64::MAX)),
+        (u64::MAX, &[9, 9], AddressFault::PastTop),
+    ];
+    for (va, wanted, fault) in rows {
+        reads(&rt, alloc, riscv_file(alloc)?, va, wanted, address(fault))?;
+    }
+    Ok(())
 }
 
 #[test]
 fn a_table_maps_the_pages_of_an_amd64_kernel(rt: HostRuntime) -> Result<(), Fail> {
     let alloc = rt.alloc();
-    let not_mapped = AddressFault::NotMapped(AMD64_KERNBASE + 0x2000);
-    reads(
-        &rt,
-        alloc,
-        amd64_file(alloc)?,
-        AMD64_KERNBASE + 0x1ffe,
-        &[5, 5, 9],
-        address(not_mapped),
-    )?;
-    let missing = AddressFault::TableMissing(AMD64_KERNBASE + 0x200000);
-    reads(
-        &rt,
-        alloc,
-        amd64_file(alloc)?,
-        AMD64_KERNBASE + 0x200000,
-        &[9],
-        address(missing),
-    )?;
-    let not_dumped = AddressFault::NotDumped(AMD64_KERNBASE + 0x402000);
-    reads(
-        &rt,
-        alloc,
-        amd64_file(alloc)?,
-        AMD64_KERNBASE + 0x401fff,
-        &[7, 9],
-        address(not_dumped),
-    )?;
-    reads(
-        &rt,
-        alloc,
-        amd64_file(alloc)?,
-        AMD64_DMAPBASE + 0x5000,
-        &[5],
-        Ok(()),
-    )
+    let rows: [(u64, &[u8], Result<(), ReadFault>); 4] = [
+        (
+            AMD64_KERNBASE + 0x1ffe,
+            &[5, 5, 9],
+            address(AddressFault::NotMapped(AMD64_KERNBASE + 0x2000)),
+        ),
+        (
+            AMD64_KERNBASE + 0x200000,
+            &[9],
+            address(AddressFault::TableMissing(AMD64_KERNBASE + 0x200000)),
+        ),
+        (
+            AMD64_KERNBASE + 0x401fff,
+            &[7, 9],
+            address(AddressFault::NotDumped(AMD64_KERNBASE + 0x402000)),
+        ),
+        (AMD64_DMAPBASE + 0x5000, &[5], Ok(())),
+    ];
+    for (va, wanted, answer) in rows {
+        reads(&rt, alloc, amd64_file(alloc)?, va, wanted, answer)?;
+    }
+    Ok(())
+}
+
+// Opens the site's file, which isn't there.
+fn has_no_file<S: Site>(rt: &impl Abort, alloc: Global, site: &mut S) {
+    assert!(rt; good_name("vmcore.0"));
+    assert_eq!(rt;
+        Kvm::open(alloc, site, "vmcore.0").err(),
+        Some(OpenFault::NoFile)
+    );
 }
 
 #[test]
 fn there_may_be_no_file(rt: HostRuntime) -> Result<(), Fail> {
     let alloc = rt.alloc();
-    assert!(rt; good_name("vmcore.0"));
     let mut site = MemSite::new(alloc, 512, 512, Vec::new(alloc))?;
-    assert_eq!(rt;
-        Kvm::open(alloc, &mut site, "vmcore.0").err(),
-        Some(OpenFault::NoFile)
-    );
+    has_no_file(&rt, alloc, &mut site);
     Ok(())
 }

@@ -1,2 +1,3 @@
 mod Back
 mod Fronts
+pub mod Layouts

@@ -1,5 +1,6 @@
 -- What writes leave at the places of a partition.
-use Rattle.std.proofs.Common.{◌≡◌, ℕ, ◌+◌, ◌-◌, ◌≤◌, List, [], ◌∷◌, ◌++◌, length, take, drop, slice_range, refl, sym, ◌∙◌, ap, arith, length-append, length-drop, take-append-drop, append_assoc}
+use Rattle.std.proofs.Common.{◌≡◌, ℕ, ◌+◌, ◌-◌, ◌≤◌, List, [], ◌∷◌, ◌++◌, length, take, drop, slice_range, refl, sym, ◌∙◌, ap, arith, length-append}
+use Rattle.std.proofs.Common.{length-drop, take-append-drop, append_assoc}
 use Rattle.std.proofs.lemmas.List.{length-take-le, take-take, drop_at, drop-drop, drop-take, take-append-le}
 use Rattle.std.proofs.lemmas.Slice.{take-put_mid, drop-put_mid}
 use Rattle.std.specs.List.{concat}

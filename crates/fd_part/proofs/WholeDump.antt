@@ -1,5 +1,6 @@
 -- A dump's parts, one after the other: the body, the leading block, the trailing block.
-use Rattle.std.proofs.Common.{◌≡◌, ℕ, ◌+◌, ◌-◌, ◌*◌, ◌/◌, ◌<◌, ◌≤◌, ◌^◌, List, [], ◌∷◌, ◌++◌, length, take, Option, Some, None, unwrap_or, IsSomeAnd, IsTrue, refl, sym, ◌∙◌, ap, subst, arith, length-append, append_assoc}
+use Rattle.std.proofs.Common.{◌≡◌, ℕ, ◌+◌, ◌-◌, ◌*◌, ◌/◌, ◌<◌, ◌≤◌, ◌^◌, List, [], ◌∷◌, ◌++◌, length, take, Option, Some, None, unwrap_or, IsSomeAnd}
+use Rattle.std.proofs.Common.{IsTrue, refl, sym, ◌∙◌, ap, subst, arith, length-append, append_assoc}
 use Rattle.fd_site.specs.Journal.{Entry, Sector, kept_sectors, sectors_of}
 use Rattle.fd_site.specs.Contents.{Contents, Adds, whole_part, with_entries}
 use Rattle.fd_site.proofs.Begun.{IsBegun-whole}

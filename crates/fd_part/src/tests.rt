@@ -1,3 +1,5 @@
+//! Which partitions can have a dump.
+
 use crate::good_partition;
 
 #[test]

@@ -1,3 +1,4 @@
+-- The definitions that contracts cite, with the laws of the architectures.
 pub mod Amd64
 pub mod Amd64Laws
 pub mod Architecture

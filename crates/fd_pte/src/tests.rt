@@ -1,3 +1,4 @@
+//! Entries as the manuals have them, with what they stand for.
 use crate::{Amd64, Arm64, Entry, Kind, Riscv};
 
 /// The kind at a height from 0 to 3.

@@ -13,14 +13,17 @@ pub consecutive_below : (first count : ℕ) → (0 < count → first + count ≤
 unfolding consecutive
 consecutive_below first zero ends = All-nil (λ (page : ℕ). page < 2 ^ 52)
 consecutive_below first (suc count) ends =
-    All-cons (λ (page : ℕ). page < 2 ^ 52) first (consecutive (first + 1) count) (let e = ends (omega arith) in omega arith) (consecutive_below (first + 1) count (λ some. let e = ends (omega arith) in omega arith))
+    All-cons (λ (page : ℕ). page < 2 ^ 52) first (consecutive (first + 1) count) (let e = ends (omega arith) in omega arith)
+    (consecutive_below (first + 1) count (λ some. let e = ends (omega arith) in omega arith))
 
 pub pages_below : (pairs : List (ℕ × ℕ)) → EndBelow pairs → AreBelow (pages_of pairs)
 pages_below [] ends = All-nil (λ (page : ℕ). page < 2 ^ 52)
 pages_below (pair ∷ pairs) ends =
     let high : pair.1 < 2 ^ 64 = All-head (λ (p : ℕ × ℕ). p.1 < 2 ^ 64) pair pairs ends in
     let end : end_page pair ≤ 2 ^ 52 = grind arith in
-    All-append (λ (page : ℕ). page < 2 ^ 52) (consecutive (first_page pair) (end_page pair - first_page pair)) (pages_of pairs) (consecutive_below (first_page pair) (end_page pair - first_page pair) (λ some. omega arith)) (pages_below pairs (All-tail (λ (p : ℕ × ℕ). p.1 < 2 ^ 64) pair pairs ends))
+    All-append (λ (page : ℕ). page < 2 ^ 52) (consecutive (first_page pair) (end_page pair - first_page pair)) (pages_of pairs)
+    (consecutive_below (first_page pair) (end_page pair - first_page pair) (λ some. omega arith))
+    (pages_below pairs (All-tail (λ (p : ℕ × ℕ). p.1 < 2 ^ 64) pair pairs ends))
 
 is_same : (m n : ℕ) → (m == n) ≡ true → m ≡ n
 is_same m n test = grind (arith, nat_tests)

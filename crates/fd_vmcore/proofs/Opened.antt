@@ -1,5 +1,5 @@
 -- Where the parts of a file lie that opens.
-use Rattle.std.proofs.Common.{◌≡◌, ℕ, zero, suc, ◌+◌, ◌*◌, ◌/◌, ◌<◌, ◌≤◌, Bool, true, false, if◌then◌else◌, cond, List, [], ◌∷◌, length, take, Option, Some, None, Result, Ok, Err, refl, subst, arith}
+use Rattle.std.proofs.Common.{◌≡◌, ℕ, zero, suc, ◌+◌, ◌*◌, ◌/◌, ◌<◌, ◌≤◌, Bool, true, false, if◌then◌else◌, cond, List, [], ◌∷◌, length, take, Option, Some, None, IsSomeAnd, Result, Ok, Err, IsOkAnd, refl, sym, subst, arith}
 use Rattle.std.specs.Option.{option_and_then}
 use Rattle.std.proofs.lemmas.Bool.Decides.{nat_tests}
 use Rattle.std.proofs.lemmas.List.Sums.{sum_by-cons}
@@ -10,7 +10,7 @@ use Rattle.fd_mini.specs.declared.mini_fault.MiniFault.{MiniFault}
 use Rattle.fd_bitmap.specs.Bits.{set_count}
 use Rattle.fd_bitmap.specs.Pages.{bit_of}
 use Rattle.fd_vmcore.specs.Ranges.{pages_in}
-use Rattle.fd_vmcore.specs.Sections.{Sections, opened, long_enough, by_header, by_ranges, bad_range, bits_in, pages_end, has_bit, offset_of_bit, page_offset}
+use Rattle.fd_vmcore.specs.Sections.{Sections, HasSections, opened, opened_file, long_enough, by_header, by_ranges, bad_range, bits_in, pages_end, has_bit, offset_of_bit, page_offset}
 use Rattle.fd_vmcore.specs.declared.open.OpenFault.{OpenFault}
 
 -- A file that opens has its header page, its sections and its dumped pages.
@@ -43,6 +43,14 @@ pub whole : (f : List ℕ) (s : Sections) → opened f ≡ Ok s → IsWhole f s
 unfolding opened
 whole f s is = whole_by_header f (header_in (take 4096 f)) s refl (answered f 4096 (by_header f (header_in (take 4096 f))) s is)
 
+-- a file that opens is one of which memory is taken
+pub has_sections : (file : Option (List ℕ)) (s : Sections) → opened_file file ≡ Ok s → IsSomeAnd file HasSections
+has_sections None s is = absurd (cc)
+has_sections (Some f) s is =
+    let w = whole f s is in
+    let P : Result MiniHeader MiniFault → Type 0 = λ r. IsOkAnd r (λ h. (places_of h).pages ≤ length f) in
+    subst P (sym w.header) w.sections
+
 set_count-cons : (b : Bool) (bits : List Bool) → set_count (b ∷ bits) ≡ cond b 1 0 + set_count bits
 set_count-cons b bits = sum_by-cons (λ (x : Bool). cond x 1 0) b bits
 
@@ -54,7 +62,9 @@ one_more_set (true ∷ bits) zero set = rw (set_count-cons true bits) (omega ari
 one_more_set (b ∷ bits) (suc bit) set =
     rw (set_count-cons b bits, set_count-cons b (take bit bits)) (let later = one_more_set bits bit set in omega arith)
 
-page_of_bit : (s : Sections) (found : Bool) (bit place : ℕ) → has_bit s.bits bit ≡ found → (if found then Some ((places_of s.header).pages + 4096 * set_count (take bit s.bits)) else None) ≡ Some place → place + 4096 ≤ pages_end s
+page_of_bit :
+    (s : Sections) (found : Bool) (bit place : ℕ) → has_bit s.bits bit ≡ found
+    → (if found then Some ((places_of s.header).pages + 4096 * set_count (take bit s.bits)) else None) ≡ Some place → place + 4096 ≤ pages_end s
 page_of_bit s false bit place set is = absurd (cc)
 page_of_bit s true bit place set is =
     let e : (places_of s.header).pages + 4096 * set_count (take bit s.bits) ≡ place = cc in

@@ -28,8 +28,10 @@ goes pair some = grind (arith, nat_tests)
 
 pub rest_ends : (s : List ℕ) (index count : ℕ) → index < count → (pair_at s index).1 ≡ 0 → rest s index count ≡ []
 rest_ends s index count below zero =
-    rest_next s index count below ∙ (take_while-cons goes_on (pair_at s index) (map (pair_at s) (range_with_len (index + 1) (count - (index + 1)))) ∙ ap (λ b. cond b (pair_at s index ∷ rest s (index + 1) count) []) (goes_not (pair_at s index) zero))
+    rest_next s index count below ∙ (take_while-cons goes_on (pair_at s index) (map (pair_at s) (range_with_len (index + 1) (count - (index + 1))))
+    ∙ ap (λ b. cond b (pair_at s index ∷ rest s (index + 1) count) []) (goes_not (pair_at s index) zero))
 
 pub rest_more : (s : List ℕ) (index count : ℕ) → index < count → (pair_at s index).1 ≢ 0 → rest s index count ≡ pair_at s index ∷ rest s (index + 1) count
 rest_more s index count below some =
-    rest_next s index count below ∙ (take_while-cons goes_on (pair_at s index) (map (pair_at s) (range_with_len (index + 1) (count - (index + 1)))) ∙ ap (λ b. cond b (pair_at s index ∷ rest s (index + 1) count) []) (goes (pair_at s index) some))
+    rest_next s index count below ∙ (take_while-cons goes_on (pair_at s index) (map (pair_at s) (range_with_len (index + 1) (count - (index + 1))))
+    ∙ ap (λ b. cond b (pair_at s index ∷ rest s (index + 1) count) []) (goes (pair_at s index) some))

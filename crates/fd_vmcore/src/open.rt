@@ -1,7 +1,6 @@
 //! Why a vmcore isn't opened.
 ghost use Rattle.std.specs.Prelude.{◌≡◌};
 
-use fd_bitmap::NoMemory;
 use fd_mini::MiniFault;
 use fd_site::Failed;
 use std::alloc::AllocError;
@@ -40,16 +39,6 @@ impl From<AllocError> for OpenFault {
     ghost from_gives = { λ _ fault. fault ≡ NoMemory };
 
     fn from(_: AllocError) -> OpenFault {
-        OpenFault::NoMemory
-    }
-}
-
-impl From<NoMemory> for OpenFault {
-    ghost use Rattle.fd_vmcore.specs.declared.open.OpenFault.TheVariants.{NoMemory};
-
-    ghost from_gives = { λ _ fault. fault ≡ NoMemory };
-
-    fn from(_: NoMemory) -> OpenFault {
         OpenFault::NoMemory
     }
 }

@@ -1,3 +1,5 @@
+-- The proofs that other files cite.
+pub mod AbsentEntries
 pub mod Addresses
 pub mod DirectoryEntries
 pub mod Lists

@@ -1,5 +1,6 @@
 -- A range is what its first entry gives, and then what the addresses behind that entry give.
-use Rattle.std.proofs.Common.{◌≡◌, ◌∙◌, ℕ, zero, suc, ◌+◌, ◌-◌, ◌*◌, ◌/◌, ◌%◌, ◌^◌, ◌<◌, ◌≤◌, ◌==◌, ◌⊎◌, max, min, Option, Some, None, List, [], ◌∷◌, ◌++◌, Bool, true, false, refl, ap, sym, subst, arith, inl, inr, if◌then◌else◌}
+use Rattle.std.proofs.Common.{◌≡◌, ◌∙◌, ℕ, zero, suc, ◌+◌, ◌-◌, ◌*◌, ◌/◌, ◌%◌, ◌^◌, ◌<◌, ◌≤◌, ◌==◌, ◌⊎◌, max, min, Option}
+use Rattle.std.proofs.Common.{Some, None, List, [], ◌∷◌, ◌++◌, Bool, true, false, refl, ap, sym, subst, arith, inl, inr, if◌then◌else◌}
 use Rattle.std.specs.List.{filter_map, range_with_len}
 use Rattle.std.specs.Option.{option_and_then, option_to_list}
 use Rattle.std.proofs.lemmas.Bool.{cases_lt, cases_eq, ne_eqb, eq-eqb}
@@ -19,7 +20,7 @@ use Rattle.fd_walk.proofs.Ways.{leaf_of_entry-is, leaf_below-is, nothing_below, 
 use Rattle.fd_walk.proofs.Spans.{kind_at-same, reached-same, leaf_at-same, same_span, same_span_back, filter_map-parts}
 
 -- an entry maps some bytes
-some_under : (height : ℕ) → 0 < bytes_under height
+pub some_under : (height : ℕ) → 0 < bytes_under height
 some_under height = pow_pos (12 + 9 * height)
 
 -- how many of so many addresses from `at` on are under its entry of this height
@@ -36,7 +37,7 @@ multiple_below low high n at_least multiple =
     ∙ mod-eq_of_lt (some_under low)
 
 -- the end of an entry is a multiple of what it maps
-end_multiple : (height at b : ℕ) → b ≡ at - at % bytes_under height + bytes_under height → b % bytes_under height ≡ 0
+pub end_multiple : (height at b : ℕ) → b ≡ at - at % bytes_under height + bytes_under height → b % bytes_under height ≡ 0
 end_multiple height at b end =
     let size = bytes_under height in
     let place : b ≡ (at / size + 1) * size = omega (arith, div-add-mod' at size) in

@@ -1,5 +1,6 @@
 -- Of all entries of one height, an address is under the one that its indices lead to.
-use Rattle.std.proofs.Common.{◌≡◌, ◌∙◌, ℕ, ◌+◌, ◌-◌, ◌*◌, ◌/◌, ◌%◌, ◌<◌, ◌≤◌, ◌⊎◌, inl, inr, true, false, Option, Some, None, [], ◌++◌, zero, suc, refl, ap, sym, arith, lit<, nat_le, nat_lt, ◌&&◌}
+use Rattle.std.proofs.Common.{◌≡◌, ◌∙◌, ℕ, ◌+◌, ◌-◌, ◌*◌, ◌/◌, ◌%◌, ◌<◌, ◌≤◌, ◌⊎◌, inl, inr, true, false}
+use Rattle.std.proofs.Common.{Option, Some, None, [], ◌++◌, zero, suc, refl, ap, sym, arith, lit<, nat_le, nat_lt, ◌&&◌}
 use Rattle.std.specs.List.{filter, filter_map, flat_map, range_with_len}
 use Rattle.std.specs.Option.{option_map, option_and_then, option_to_list, unwrap_or}
 use Rattle.std.proofs.lemmas.Bool.{cases_lt}
@@ -10,7 +11,8 @@ use Rattle.std.proofs.Math.Nat.{le_refl}
 use Rattle.fd_pte.specs.declared.entry.Kind.{Kind}
 use Rattle.fd_pte.specs.declared.entry.Kind.TheVariants.{Absent, Table, Leaf}
 use Rattle.fd_pte.specs.Entry.{bytes_under}
-use Rattle.fd_walk.specs.PageTables.{PageTables, TableEntry, entry_of_index, entries_of_table, entries_of_kind, entries_under, entries_below, seen_part, is_under, entry_at, index_at, kind_at}
+use Rattle.fd_walk.specs.PageTables.{PageTables, TableEntry, entry_of_index, entries_of_table, entries_of_kind, entries_under}
+use Rattle.fd_walk.specs.PageTables.{entries_below, seen_part, is_under, entry_at, index_at, kind_at}
 use Rattle.fd_walk.proofs.Addresses.{bytes_under-above, place_of, place_of-top}
 use Rattle.fd_walk.proofs.Lists.{filter-flat_map, flat_map-filter, first, find-filter, first-option_to_list, filter-cons_kept, filter-cons_dropped}
 

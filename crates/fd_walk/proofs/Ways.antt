@@ -9,7 +9,7 @@ use Rattle.fd_walk.specs.PageTables.{PageTables, entry_at, index_at, kind_at, ki
 use Rattle.fd_walk.specs.Descent.{IsTable, IsOnWay, IsInTable, IsReached}
 use Rattle.fd_walk.specs.Step.{step_at, step_of}
 use Rattle.fd_walk.specs.Leaf.{MappedBy, leaf_of_kind, leaf_of_entry, leaf_of_height, leaf_below, leaf_at, table_of_kind, last_table}
-use Rattle.fd_walk.proofs.TablePath.{word_under, entry_at-top, entry_at-below}
+use Rattle.fd_walk.proofs.TablePath.{word_under, entry_at-below}
 
 -- a walk begins in the topmost table
 pub topmost_table : (t : PageTables) (va height table : ℕ) → height + 1 ≡ t.levels → table ≡ t.root → IsInTable t va height table

@@ -1,3 +1,4 @@
+-- The definitions that contracts cite.
 pub mod Descent
 pub mod Directory
 pub mod Leaf

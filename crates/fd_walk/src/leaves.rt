@@ -109,7 +109,7 @@ impl<E: Entry, const LEVELS: usize> Walker<E, LEVELS> {
             },
             None => LeafPart {
                 leaf: None,
-                rest: part.rest,
+                rest: Self::past_absent(mem, root, part.rest, 0),
             },
         }
     }

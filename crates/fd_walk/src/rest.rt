@@ -1,14 +1,14 @@
 //! What is left of a range that is walked entry by entry.
-ghost use Rattle.std.specs.Prelude.{◌≡◌, ◌≤◌, ◌<◌, ◌-◌, ◌+◌, ◌%◌, ◌/◌, ◌^◌, ◌⊎◌, ℕ, min};
+ghost use Rattle.std.specs.Prelude.{◌≡◌, ◌≤◌, ◌<◌, ◌-◌, ◌+◌, ◌%◌, ◌/◌, ◌^◌, ◌⊎◌, ◌*◌, ℕ, min};
 ghost use Rattle.fd_pte.specs.Entry.{bytes_under};
-ghost use Rattle.fd_walk.specs.PageTables.{tables_of};
+ghost use Rattle.fd_walk.specs.PageTables.{tables_of, kind_of_entry};
 ghost use Rattle.fd_walk.specs.Descent.{IsReached};
-ghost use Rattle.fd_walk.specs.Ranges.{IsRest};
+ghost use Rattle.fd_walk.specs.Ranges.{leaves_in, last_tables_in, IsRest};
 
-use crate::address::bytes_under;
+use crate::address::{bytes_under, index_at};
 use crate::walker::{Place, Walker};
 use fd_image::Memory;
-use fd_pte::Entry;
+use fd_pte::{Entry, Kind};
 
 /// `left` addresses from `at` on, and the table in which the walk for the first of them goes on.
 #[derive(Clone, Copy)]
@@ -79,6 +79,53 @@ impl<E: Entry, const LEVELS: usize> Walker<E, LEVELS> {
                 place: Self::place_after(root, place, rest.at, at),
             },
         }
+    }
+
+    /// Passes the absent entries that a range begins with in its table.
+    pub(crate) fn past_absent<M: Memory>(mem: &M, root: u64, rest: Rest, lowest: u32) -> Rest
+        requires rest { IsRest (tables_of (M.word_at mem.now) E.kind_of LEVELS root) lowest rest }
+        requires low { lowest ≤ 1 }
+        ensures shorter { result.left ≤ rest.left }
+        ensures rest { IsRest (tables_of (M.word_at mem.now) E.kind_of LEVELS root) lowest result }
+        ensures leaves { let tables = tables_of (M.word_at mem.now) E.kind_of LEVELS root in
+            leaves_in tables rest.at rest.left ≡ leaves_in tables result.at result.left }
+        ensures tables { lowest ≡ 1 → let tables = tables_of (M.word_at mem.now) E.kind_of LEVELS root in
+            last_tables_in tables rest.at rest.left ≡ last_tables_in tables result.at result.left }
+    {
+        let size = bytes_under(rest.place.height);
+        let first = index_at(rest.at, rest.place.height);
+        let end = Self::past_absent_entries(mem, rest.place, first);
+        if end == first {
+            return rest;
+        }
+        let bytes = rest.left.min((end - first) * size - rest.at % size);
+        // The sum wraps only where nothing is left.
+        let at = rest.at.wrapping_add(bytes);
+        Rest {
+            at,
+            left: rest.left - bytes,
+            place: Self::place_after(root, rest.place, rest.at, at),
+        }
+    }
+
+    /// The index of a table's first entry from one on that isn't absent, or 512.
+    fn past_absent_entries<M: Memory>(mem: &M, place: Place, first: u64) -> u64
+        requires first { first < 512 }
+        requires high { place.height ≤ 3 }
+        requires room { place.table + 4096 ≤ 2 ^ 64 }
+        ensures from_ { first ≤ result }
+        ensures to { result ≤ 512 }
+        ensures absent { (k : ℕ) → first ≤ k → k < result
+            → kind_of_entry E.kind_of place.height (M.word_at mem.now (place.table + 8 * k)) ≡ Kind.Absent }
+    {
+        let mut index = first;
+        while index < 512 {
+            match Self::kind(mem.word(place.table + 8 * index), place.height) {
+                Kind::Absent => index += 1,
+                _ => return index,
+            }
+        }
+        index
     }
 
     /// The table in which the walk for a later address goes on: the one of an address before, if both are under one

@@ -26,6 +26,7 @@ pub struct Tables<'a, M: Memory, E: Entry, const LEVELS: usize> {
 impl<'a, M: Memory, E: Entry, const LEVELS: usize> Model for Tables<'a, M, E, LEVELS> {
     ghost use Rattle.std.specs.Prelude.{ℕ, List};
     ghost use Rattle.fd_walk.specs.PageTables.{tables_of};
+    ghost use Rattle.fd_walk.specs.Leaf.{table_of_kind};
     ghost use Rattle.fd_walk.specs.Ranges.{last_tables_in, IsRest};
 
     ghost Value = { List ℕ };
@@ -97,9 +98,15 @@ impl<E: Entry, const LEVELS: usize> Walker<E, LEVELS> {
             ≡ option_to_list result.table ++ last_tables_in tables result.rest.at result.rest.left }
     {
         let part = Self::part(mem, root, rest, 1);
-        TablePart {
-            table: table_of_kind(Self::kind(part.entry, part.height)),
-            rest: part.rest,
+        match table_of_kind(Self::kind(part.entry, part.height)) {
+            Some(table) => TablePart {
+                table: Some(table),
+                rest: part.rest,
+            },
+            None => TablePart {
+                table: None,
+                rest: Self::past_absent(mem, root, part.rest, 1),
+            },
         }
     }
 }

@@ -1,4 +1,5 @@
-ghost use Rattle.std.specs.Prelude.{◌==◌, ◌&&◌, ◌<◌, Some, None, nat_le, nat_lt, if◌then◌else◌};
+//! Walks of small tables, with what they lead to.
+ghost use Rattle.std.specs.Prelude.{◌==◌, ◌&&◌, ◌<◌, ◌≤◌, ◌+◌, ◌^◌, Some, None, nat_le, nat_lt, if◌then◌else◌};
 
 use crate::{Leaf, Step, Walker};
 use fd_image::Memory;
@@ -8,6 +9,8 @@ use fd_pte::{Amd64, Arm64, Entry, Riscv};
 struct FourTables;
 
 const ROOT: u64 = 0x10_0000;
+
+const WINDOW: u64 = 0xffff_fe00_0000_0000;
 
 impl Memory for FourTables {
     ghost word_at = { λ _ pa.
@@ -138,71 +141,92 @@ fn entry_of(page: &[u8; 4096], index: usize) -> u64
     ])
 }
 
+/// The entry at an index of one of the first two pages of the window's directory.
+fn directory_entry(page: u64, index: usize) -> u64 {
+    if page >= 2 || index >= 512 {
+        return 0;
+    }
+    let mut bytes = [0; 4096];
+    Walker::<Amd64, 4>::directory_page(&FourTables, ROOT, WINDOW, page, &mut bytes);
+    entry_of(&bytes, index)
+}
+
 #[test]
 fn a_gigantic_leaf_fills_its_directory_page(rt: HostRuntime) {
-    let mut page = [0; 4096];
-    Walker::<Amd64, 4>::directory_page(&FourTables, ROOT, 0xffff_fe00_0000_0000, 0, &mut page);
-    assert_eq!(rt; entry_of(&page, 0), 0x4000_0083);
-    assert_eq!(rt; entry_of(&page, 1), 0x4020_0083);
-    assert_eq!(rt; entry_of(&page, 511), 0x7fe0_0083);
-    Walker::<Amd64, 4>::directory_page(&FourTables, ROOT, 0xffff_fe00_0000_0000, 1, &mut page);
-    assert_eq!(rt; entry_of(&page, 0), 0x10_3003);
-    assert_eq!(rt; entry_of(&page, 1), 0x6000_0003);
-    assert_eq!(rt; entry_of(&page, 2), 0);
+    for (page, index, want) in [
+        (0, 0, 0x4000_0083),
+        (0, 1, 0x4020_0083),
+        (0, 511, 0x7fe0_0083),
+        (1, 0, 0x10_3003),
+        (1, 1, 0x6000_0003),
+        (1, 2, 0),
+    ] {
+        assert_eq!(rt; directory_entry(page, index), want, "{index} of {page}");
+    }
+}
+
+/// The first four leaves of a range.
+fn four_leaves(from: u64, bytes: u64) -> [Option<Leaf>; 4]
+    requires { from + bytes ≤ 2 ^ 64 }
+{
+    let mut leaves = Walker::<Amd64, 4>::leaves(&FourTables, ROOT, from, bytes);
+    [leaves.next(), leaves.next(), leaves.next(), leaves.next()]
 }
 
 #[test]
 fn leaves_are_cut_to_the_range(rt: HostRuntime) {
-    let gigantic = 0xffff_fe00_0000_0000;
-    let mut leaves = Walker::<Amd64, 4>::leaves(&FourTables, ROOT, gigantic + 0x1800, 0x4000_0000);
-    for want in [
-        Leaf {
-            va: gigantic + 0x1800,
+    let leaves = four_leaves(WINDOW + 0x1800, 0x4000_0000);
+    let want = [
+        Some(Leaf {
+            va: WINDOW + 0x1800,
             pa: 0x4000_1800,
             size: 0x3fff_e800,
             bits: 0x4000_0083,
-        },
-        Leaf {
-            va: gigantic + 0x4000_0000,
+        }),
+        Some(Leaf {
+            va: WINDOW + 0x4000_0000,
             pa: 0x10_4000,
             size: 0x1000,
             bits: 0x10_4003,
-        },
-        Leaf {
-            va: gigantic + 0x4000_1000,
+        }),
+        Some(Leaf {
+            va: WINDOW + 0x4000_1000,
             pa: 0x10_5000,
             size: 0x800,
             bits: 0x8000_0000_0010_5001,
-        },
-    ] {
-        assert_eq!(rt; leaves.next(), Some(want));
-    }
-    assert_eq!(rt; leaves.next(), None);
+        }),
+        None,
+    ];
+    assert_eq!(rt; leaves, want);
 }
 
 #[test]
 fn absent_tables_are_passed_at_once(rt: HostRuntime) {
-    let below = Walker::<Amd64, 4>::leaves(&FourTables, ROOT, 0, 0xfe00_0000_0000).next();
-    assert_eq!(rt; below, None);
-    let behind = Walker::<Amd64, 4>::leaves(
-        &FourTables,
-        ROOT,
-        0xffff_fe00_8000_0000,
-        0x1ff_8000_0000,
-    ).next();
-    assert_eq!(rt; behind, None);
+    assert_eq!(rt; four_leaves(0, 0xfe00_0000_0000), [None; 4]);
+    assert_eq!(rt;
+        four_leaves(WINDOW + 0x8000_0000, 0x1ff_8000_0000),
+        [None; 4]
+    );
+}
+
+/// The first three tables of a range.
+fn three_tables(from: u64, bytes: u64) -> [Option<u64>; 3]
+    requires { from + bytes ≤ 2 ^ 64 }
+{
+    let mut tables = Walker::<Amd64, 4>::tables(&FourTables, ROOT, from, bytes);
+    [tables.next(), tables.next(), tables.next()]
 }
 
 #[test]
 fn tables_come_in_the_order_of_their_entries(rt: HostRuntime) {
-    let window = 0xffff_fe00_0000_0000;
-    let mut tables = Walker::<Amd64, 4>::tables(&FourTables, ROOT, window, 0x8000_0000);
-    assert_eq!(rt; tables.next(), Some(0x10_3000));
-    assert_eq!(rt; tables.next(), Some(0x6000_0000));
-    assert_eq!(rt; tables.next(), None);
-    let mut tables = Walker::<Amd64, 4>::tables(&FourTables, ROOT, window + 0x401f_ffff, 1);
-    assert_eq!(rt; tables.next(), Some(0x10_3000));
-    assert_eq!(rt; tables.next(), None);
+    assert_eq!(rt;
+        three_tables(WINDOW, 0x8000_0000),
+        [Some(0x10_3000), Some(0x6000_0000), None]
+    );
+    assert_eq!(rt;
+        three_tables(WINDOW + 0x401f_ffff, 1),
+        [Some(0x10_3000), None, None]
+    );
 }
 
 /// The leaf of the last page of all, and of no other.
@@ -210,36 +234,39 @@ fn last_page<E: Entry>(mem: &OneWord) -> Option<Leaf> {
     Walker::<E, 3>::leaves(mem, 0x8000_0000, 0xffff_ffff_ffff_f000, 0x1000).next()
 }
 
+const LAST_PAGE: Leaf = Leaf {
+    va: 0xffff_ffff_ffff_f000,
+    pa: 0xbfff_f000,
+    size: 0x1000,
+    bits: 0x2000_00cf,
+};
+
+/// The last entry of the topmost table alone.
+fn last_entry(bits: u64) -> OneWord {
+    OneWord {
+        place: 0x8000_0ff8,
+        bits,
+    }
+}
+
 #[test]
 fn the_last_addresses_are_reached(rt: HostRuntime) {
-    let page = Leaf {
-        va: 0xffff_ffff_ffff_f000,
-        pa: 0xbfff_f000,
-        size: 0x1000,
-        bits: 0x2000_00cf,
-    };
-    let riscv = OneWord {
-        place: 0x8000_0ff8,
-        bits: 0x2000_00cf,
-    };
-    assert_eq!(rt; last_page::<Riscv>(&riscv), Some(page));
+    assert_eq!(rt;
+        last_page::<Riscv>(&last_entry(0x2000_00cf)),
+        Some(LAST_PAGE)
+    );
     let block = Leaf {
         bits: 0x0060_0000_8000_0701,
-        ..page
+        ..LAST_PAGE
     };
-    let arm64 = OneWord {
-        place: 0x8000_0ff8,
-        bits: 0x0060_0000_8000_0701,
-    };
-    assert_eq!(rt; last_page::<Arm64>(&arm64), Some(block));
-    let mut directory = [0; 4096];
-    Walker::<Arm64, 3>::directory_page(
-        &arm64,
-        0x8000_0000,
-        0xffff_ffff_c000_0000,
-        511,
-        &mut directory,
-    );
-    assert_eq!(rt; entry_of(&directory, 0), 0x0060_0000_bfe0_0703);
-    assert_eq!(rt; entry_of(&directory, 511), 0x0060_0000_bfff_f703);
+    assert_eq!(rt; last_page::<Arm64>(&last_entry(block.bits)), Some(block));
+}
+
+#[test]
+fn a_block_fills_the_last_directory_page(rt: HostRuntime) {
+    let mem = last_entry(0x0060_0000_8000_0701);
+    let mut page = [0; 4096];
+    Walker::<Arm64, 3>::directory_page(&mem, 0x8000_0000, 0xffff_ffff_c000_0000, 511, &mut page);
+    assert_eq!(rt; entry_of(&page, 0), 0x0060_0000_bfe0_0703);
+    assert_eq!(rt; entry_of(&page, 511), 0x0060_0000_bfff_f703);
 }

@@ -1,3 +1,4 @@
+-- The definitions that contracts cite.
 pub mod Sizes
 pub mod Tally
 pub mod Words

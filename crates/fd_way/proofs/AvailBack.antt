@@ -4,19 +4,18 @@ use Rattle.std.specs.Int.{w64, to_le_bytes, div_ceil}
 use Rattle.std.specs.List.{flat_map, range_with_len, prefix_len, position_or_len}
 use Rattle.std.proofs.lemmas.Bool.Decides.{nat_tests}
 use Rattle.std.proofs.lemmas.List.{get_or-map}
-use Rattle.std.proofs.lemmas.List.Concat.{length-flat_map}
-use Rattle.std.proofs.lemmas.List.Elements.{All-get_or, All-from_get_or}
-use Rattle.std.proofs.lemmas.List.FromFn.{length-range_with_len, length-map-range_with_len, get_or-map-range_with_len, take-map-range_with_len, fill_by_all}
-use Rattle.std.proofs.lemmas.List.Sums.{prefix_len_is, position_or_len_is, sum_by-le}
+use Rattle.std.proofs.lemmas.List.Elements.{All-get_or}
+use Rattle.std.proofs.lemmas.List.FromFn.{length-map-range_with_len, get_or-map-range_with_len, take-map-range_with_len, fill_by_all}
+use Rattle.std.proofs.lemmas.List.Sums.{prefix_len_is, position_or_len_is}
 use Rattle.fd_bytes.specs.Field.{u64_le_at}
 use Rattle.fd_image.specs.Image.{MachineImage, IsValid, pair_end}
 use Rattle.fd_image.proofs.Places.{length-beside, get_or-beside}
-use Rattle.fd_bitmap.specs.Pages.{consecutive, first_page, end_page, pages_of, is_bad, with_ends_before, first_bad}
+use Rattle.fd_bitmap.specs.Pages.{first_page, end_page, is_bad, with_ends_before, first_bad}
 use Rattle.fd_mini.specs.Places.{rounded_up}
 use Rattle.fd_vmcore.specs.Ranges.{pair_at, goes_on, pairs_in}
 use Rattle.fd_dump.specs.Minidump.{filled, avail_bytes}
-use Rattle.fd_way.proofs.Limits.{IsRange, pair_whole, pair_after, pair_short, limited}
-use Rattle.fd_way.proofs.SectionPlaces.{length-filled, length-avail_bytes}
+use Rattle.fd_dump.proofs.Sizes.{length-filled, length-avail}
+use Rattle.fd_way.proofs.Limits.{IsRange, pair_whole, pair_after}
 use Rattle.fd_way.proofs.Stands.{Stands, Stands-inner, Stands-first, Stands-last, Stands-piece, length-pieces, u64_le_at-Stands}
 
 -- the bytes of a pair
@@ -56,18 +55,21 @@ module _ (avail : List (ℕ × ℕ)) (typed : All (λ pair. (pair.0 < 2 ^ 64) ×
       let pair : ℕ × ℕ = get_or avail k (0, 0) in
       let fits = All-get_or (λ (p : ℕ × ℕ). (p.0 < 2 ^ 64) × (p.1 < 2 ^ 64)) avail k (0, 0) within typed in
       same_pair (u64_le_at section (16 * k)) (u64_le_at section (16 * k + 8)) pair.0 pair.1
-      (u64_le_at-Stands section (16 * k) pair.0 (Stands-inner (to_le_bytes w64 pair.0) (pair_bytes pair) section 0 (16 * k) (16 * k) (omega arith) (Stands-first (to_le_bytes w64 pair.0) (to_le_bytes w64 pair.1)) (Stands-pair k within)) fits.0)
-      (u64_le_at-Stands section (16 * k + 8) pair.1 (Stands-inner (to_le_bytes w64 pair.1) (pair_bytes pair) section 8 (16 * k) (16 * k + 8) refl (Stands-last (to_le_bytes w64 pair.0) (to_le_bytes w64 pair.1) 8 refl) (Stands-pair k within)) fits.1)
+      (u64_le_at-Stands section (16 * k) pair.0 (Stands-inner (to_le_bytes w64 pair.0) (pair_bytes pair) section 0 (16 * k) (16 * k) (omega arith)
+      (Stands-first (to_le_bytes w64 pair.0) (to_le_bytes w64 pair.1)) (Stands-pair k within)) fits.0)
+      (u64_le_at-Stands section (16 * k + 8) pair.1 (Stands-inner (to_le_bytes w64 pair.1) (pair_bytes pair) section 8 (16 * k) (16 * k + 8) refl
+      (Stands-last (to_le_bytes w64 pair.0) (to_le_bytes w64 pair.1) 8 refl) (Stands-pair k within)) fits.1)
 
   end_back : u64_le_at section (16 * length avail + 8) ≡ 0
   end_back =
-      u64_le_at-Stands section (16 * length avail + 8) 0 (Stands-inner (to_le_bytes w64 0) (replicate 16 0) section 8 (16 * length avail) (16 * length avail + 8) refl (Stands-last (to_le_bytes w64 0) (to_le_bytes w64 0) 8 refl) Stands-zeros) (omega arith)
+      u64_le_at-Stands section (16 * length avail + 8) 0 (Stands-inner (to_le_bytes w64 0) (replicate 16 0) section 8 (16 * length avail)
+      (16 * length avail + 8) refl (Stands-last (to_le_bytes w64 0) (to_le_bytes w64 0) 8 refl) Stands-zeros) (omega arith)
 
   abbrev count : ℕ
   count = length section / 16
 
   room : length avail < count
-  room = omega (arith, length-filled (avail_bytes avail), length-avail_bytes avail)
+  room = omega (arith, length-filled (avail_bytes avail), length-avail avail)
 
   read : (k : ℕ) → k < count → get_or (map (pair_at section) (range_with_len 0 count)) k (0, 0) ≡ pair_at section k
   read k within = get_or-map-range_with_len (pair_at section) 0 count k k (0, 0) within (omega arith)
@@ -110,24 +112,7 @@ module _ (m : MachineImage) (valid : IsValid m) where
       let good = λ (k : ℕ) (within : k < length zipped).
       let inside : k < length m.avail = omega arith in
       ap is_bad (get_or-beside end_page m.avail k (0, 0) inside)
-      ∙ not_bad (get_or (0 ∷ map end_page m.avail) k 0) (get_or (0 ∷ map pair_end m.avail) k 0) (get_or m.avail k (0, 0)) (ends_before m.avail k inside) (pair_after m valid k inside (0, 0)) (pair_whole m valid k inside (0, 0)) in
+      ∙ not_bad (get_or (0 ∷ map end_page m.avail) k 0) (get_or (0 ∷ map pair_end m.avail) k 0) (get_or m.avail k (0, 0)) (ends_before m.avail k inside)
+      (pair_after m valid k inside (0, 0)) (pair_whole m valid k inside (0, 0)) in
       let place : position_or_len is_bad zipped ≡ length zipped = position_or_len_is is_bad zipped (length zipped) (0, (0, 0)) (omega arith) good (λ h. absurd (omega arith)) in
       grind (arith, nat_tests)
-
-  -- the pages of a pair, and of all pairs
-  few_in_pair : (k : ℕ) → k < length m.avail → length (consecutive (first_page (get_or m.avail k (0, 0))) (end_page (get_or m.avail k (0, 0)) - first_page (get_or m.avail k (0, 0)))) ≤ 2 ^ 18
-  unfolding consecutive
-  few_in_pair k within =
-      let pair : ℕ × ℕ = get_or m.avail k (0, 0) in
-      omega (arith, length-range_with_len (first_page pair) (end_page pair - first_page pair), pair_short m valid k within (0, 0), pair_whole m valid k within (0, 0))
-
-  pub few_pages : length (pages_of m.avail) ≤ 2 ^ 28
-  few_pages =
-      let pages_in_pair = λ (pair : ℕ × ℕ). consecutive (first_page pair) (end_page pair - first_page pair) in
-      omega (
-        arith,
-        length-flat_map pages_in_pair m.avail,
-        sum_by-le (λ (pair : ℕ × ℕ). length (pages_in_pair pair)) (2 ^ 18) m.avail
-            (All-from_get_or (λ (pair : ℕ × ℕ). length (pages_in_pair pair) ≤ 2 ^ 18) m.avail (0, 0) few_in_pair),
-        limited m valid,
-      )

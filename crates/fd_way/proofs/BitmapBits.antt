@@ -57,7 +57,10 @@ joined_few bits here later few =
     ∙ ap (λ l. bits ++ l) (replicate-append-replicate here later false)
 
 -- clear bits behind the first eight and behind the others
-joined : (bits : List Bool) (count : ℕ) → length bits ≤ 8 * suc count → (take 8 bits ++ replicate (8 - length bits) false) ++ (drop 8 bits ++ replicate (8 * count - length (drop 8 bits)) false) ≡ bits ++ replicate (8 * suc count - length bits) false
+joined :
+    (bits : List Bool) (count : ℕ) → length bits ≤ 8 * suc count
+    → (take 8 bits ++ replicate (8 - length bits) false) ++ (drop 8 bits ++ replicate (8 * count - length (drop 8 bits)) false)
+    ≡ bits ++ replicate (8 * suc count - length bits) false
 joined bits count room =
     elim (cases_lt (length bits) 8) [
       | inl few ↦
@@ -78,7 +81,10 @@ bits_of-bytes bits (suc count) room =
     ∙ joined bits count room
 
 -- the bits of the bitmap's bytes, filled with zeros
-pub bits_of-filled : (bits : List Bool) (zeros : ℕ) → bits_of (map (byte_at bits) (range_with_len 0 (div_ceil (length bits) 8)) ++ replicate zeros 0) ≡ bits ++ replicate (8 * div_ceil (length bits) 8 - length bits + 8 * zeros) false
+pub bits_of-filled :
+    (bits : List Bool) (zeros : ℕ)
+    → bits_of (map (byte_at bits) (range_with_len 0 (div_ceil (length bits) 8)) ++ replicate zeros 0)
+    ≡ bits ++ replicate (8 * div_ceil (length bits) 8 - length bits + 8 * zeros) false
 bits_of-filled bits zeros =
     let count : ℕ = div_ceil (length bits) 8 in
     let own : ℕ = 8 * count - length bits in

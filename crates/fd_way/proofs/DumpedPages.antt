@@ -101,7 +101,8 @@ module _ (m : MachineImage) (valid : IsValid m) where
 
   pub segment_of-start : (pa : ℕ) → segment_of m pa ≡ segment_of m (page_start pa)
   segment_of-start pa =
-      find_same (has_address pa) (has_address (page_start pa)) m.segs (λ k within d. has_start pa (get_or m.segs k d) (passes is_whole_pages m.segs (rules_kept m valid.unbroken).segments_whole k within d))
+      find_same (has_address pa) (has_address (page_start pa)) m.segs
+      (λ k within d. has_start pa (get_or m.segs k d) (passes is_whole_pages m.segs (rules_kept m valid.unbroken).segments_whole k within d))
 
   pub page_of-start : (pa : ℕ) → page_of m pa ≡ page_of m (page_start pa)
   unfolding page_of
@@ -145,12 +146,21 @@ module _ (m : MachineImage) (valid : IsValid m) where
       elim (cases_Bool (is_dumped m page)) [
         | inl dumped ↦
             let b : IsBacked m page = backed page (dumped_available page dumped) in
-            omega (arith, ap length (memory_kept page pages b.page dumped b.is), length-append b.page (memory_from pages), b.whole, length-memory pages, count_kept (is_dumped m page) (bits_from pages) dumped)
+            omega (
+              arith,
+              ap length (memory_kept page pages b.page dumped b.is),
+              length-append b.page (memory_from pages),
+              b.whole,
+              length-memory pages,
+              count_kept (is_dumped m page) (bits_from pages) dumped,
+            )
         | inr left_out ↦
             omega (arith, ap length (memory_left_out page pages left_out), length-memory pages, count_left_out (is_dumped m page) (bits_from pages) left_out)
       ]
 
-  pub Stands-dumped : (pages : List ℕ) (k d : ℕ) (bytes : List ℕ) → k < length pages → is_dumped m (get_or pages k d) ≡ true → page_of m (get_or pages k d) ≡ Some bytes → Stands bytes (4096 * set_count (take k (bits_from pages))) (memory_from pages)
+  pub Stands-dumped :
+      (pages : List ℕ) (k d : ℕ) (bytes : List ℕ) → k < length pages → is_dumped m (get_or pages k d) ≡ true → page_of m (get_or pages k d) ≡ Some bytes
+      → Stands bytes (4096 * set_count (take k (bits_from pages))) (memory_from pages)
   Stands-dumped [] k d bytes within dumped is = absurd (omega arith)
   Stands-dumped (page ∷ pages) zero d bytes within dumped is = record {
     front = [];

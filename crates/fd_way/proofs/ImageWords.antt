@@ -69,7 +69,9 @@ module _ (m : MachineImage) (valid : IsValid m) where
       (ap (λ n. slice_range seg.bytes n (n + 8)) (sym place)
       ∙ range_within-Stands (page_in seg page) seg.bytes at (8 * index) 8 (Stands-range seg.bytes at 4096 inside.ends) (omega (arith, length-page_in seg page inside))))
 
-  page_segment : (page : ℕ) (bytes : List ℕ) (seg : Option Seg) → segment_of m page ≡ seg → option_map (λ s. page_in s page) seg ≡ Some bytes → (s : Seg) × (segment_of m page ≡ Some s) × (page_in s page ≡ bytes)
+  page_segment :
+      (page : ℕ) (bytes : List ℕ) (seg : Option Seg) → segment_of m page ≡ seg → option_map (λ s. page_in s page) seg ≡ Some bytes
+      → (s : Seg) × (segment_of m page ≡ Some s) × (page_in s page ≡ bytes)
   page_segment page bytes None segment is = cc
   page_segment page bytes (Some seg) segment is = (seg, segment, cc)
 

@@ -1,7 +1,7 @@
 mod AvailBack
 mod BitmapBits
+mod Digits
 mod DumpedPages
-pub mod Hex
 mod ImageWords
 mod Limits
 mod Lines

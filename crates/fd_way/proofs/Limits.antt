@@ -1,30 +1,19 @@
 -- What the rules of a valid image say of its pairs and windows, in numbers.
-use Rattle.std.proofs.Common.{◌≡◌, ℕ, ◌+◌, ◌*◌, ◌/◌, ◌%◌, ◌<◌, ◌≤◌, ◌^◌, Bool, true, false, cond, ◌&&◌, List, ◌∷◌, length, map, get_or, nat_le, sum_by, Option, Some, None, sym, ◌∙◌, ap, arith}
+use Rattle.std.proofs.Common.{◌≡◌, ℕ, ◌+◌, ◌*◌, ◌/◌, ◌%◌, ◌<◌, ◌≤◌, ◌^◌, Bool, true, false, cond, ◌&&◌, List, ◌∷◌, length, map, get_or, nat_le, Option, Some, None, sym, ◌∙◌, ap, arith}
 use Rattle.std.specs.Prelude.{◌==◌}
 use Rattle.std.proofs.lemmas.Bool.Decides.{nat_tests}
 use Rattle.std.proofs.lemmas.List.Folds.{Any-from_list_any}
-use Rattle.std.proofs.lemmas.List.Sums.{get_or-le-sum_by}
+use Rattle.fd_bytes.specs.Profile.{profile_of}
 use Rattle.fd_bytes.specs.declared.arch.Arch.{Arch}
 use Rattle.fd_bytes.specs.declared.arch.Arch.TheVariants.{Amd64, Arm64, Riscv}
-use Rattle.fd_image.specs.Image.{MachineImage, IsValid, end_of, first_failing, beside_the_one_before, is_range_of_pages, ragged_pair, pair_end, pair_begins_at_or_after, lies_in_segment, is_within_limits, is_kernel_window, is_direct_map}
-use Rattle.fd_image.specs.Space.{space_of}
+use Rattle.fd_image.specs.Image.{MachineImage, IsValid, end_of, first_failing, beside_the_one_before, is_range_of_pages, ragged_pair, pair_end, pair_begins_at_or_after, lies_in_segment, is_direct_map}
 use Rattle.fd_image.specs.declared.parts.Seg.{Seg}
 use Rattle.fd_image.specs.declared.parts.Windows.{Windows}
 use Rattle.fd_image.proofs.Places.{length-beside, get_or-beside}
 use Rattle.fd_image.proofs.Valid.{rules_kept, passes, kept}
 use Rattle.fd_pte.specs.Architecture.{directory_height_of}
 use Rattle.fd_pte.specs.Entry.{bytes_under}
-
--- the counts and sizes of an image
-pub record IsLimited (m : MachineImage) : Type 0 where
-  pub bytes : sum_by (λ (seg : Seg). length seg.bytes) m.segs ≤ 2 ^ 30
-  pub pairs : length m.avail ≤ 1024
-  pub msgbuf : length m.texts.msgbuf ≤ 1048576
-
-pub limited : (m : MachineImage) → IsValid m → IsLimited m
-limited m valid =
-    let test : is_within_limits m ≡ true = kept (is_within_limits m) (rules_kept m valid.unbroken).within_limits in
-    record { bytes = grind (arith, nat_tests); pairs = grind (arith, nat_tests); msgbuf = grind (arith, nat_tests) }
+use Rattle.fd_dump.proofs.Limits.{IsDivided, window_divided}
 
 -- there are pairs, and each passes
 unless_none : (test : Bool) (later : Option ℕ) → cond test (Some 0) later ≡ None → later ≡ None
@@ -50,7 +39,8 @@ pair_whole m valid k within d = IsRange-from_test (get_or m.avail k d) (pairs_pa
 pub pair_after : (m : MachineImage) → IsValid m → (k : ℕ) → k < length m.avail → (d : ℕ × ℕ) → get_or (0 ∷ map pair_end m.avail) k 0 ≤ (get_or m.avail k d).0
 pair_after m valid k within d =
     let in_order = (rules_kept m valid.unbroken).pairs_in_order in
-    let test : pair_begins_at_or_after (get_or (beside_the_one_before pair_end m.avail) k (0, d)) ≡ true = passes pair_begins_at_or_after (beside_the_one_before pair_end m.avail) in_order k (omega (arith, length-beside pair_end m.avail)) (0, d) in
+    let test : pair_begins_at_or_after (get_or (beside_the_one_before pair_end m.avail) k (0, d)) ≡ true =
+    passes pair_begins_at_or_after (beside_the_one_before pair_end m.avail) in_order k (omega (arith, length-beside pair_end m.avail)) (0, d) in
     let here : pair_begins_at_or_after (get_or (0 ∷ map pair_end m.avail) k 0, get_or m.avail k d) ≡ true = ap pair_begins_at_or_after (sym (get_or-beside pair_end m.avail k d within)) ∙ test in
     grind (arith, nat_tests, here)
 
@@ -66,17 +56,11 @@ pub record IsInSegment (m : MachineImage) (pair : ℕ × ℕ) : Type 0 where
 pub pair_inside : (m : MachineImage) → IsValid m → (k : ℕ) → k < length m.avail → (d : ℕ × ℕ) → IsInSegment m (get_or m.avail k d)
 pair_inside m valid k within d =
     let pair : ℕ × ℕ = get_or m.avail k d in
-    let any = Any-from_list_any (λ (seg : Seg). nat_le seg.start pair.0 && nat_le pair.1 (end_of seg)) m.segs (passes (lies_in_segment m.segs) m.avail (rules_kept m valid.unbroken).pairs_inside k within d) in
+    let any = Any-from_list_any (λ (seg : Seg). nat_le seg.start pair.0 && nat_le pair.1 (end_of seg)) m.segs
+    (passes (lies_in_segment m.segs) m.avail (rules_kept m valid.unbroken).pairs_inside k within d) in
     let seg : Seg = any.1 in
     let test : (nat_le seg.start pair.0 && nat_le pair.1 (end_of seg)) ≡ true = any.4 in
     record { seg = seg; index = any.0; within = any.2; is = any.3; from = grind (arith, nat_tests, test); to = grind (arith, nat_tests, test) }
-
--- no pair is longer than all segments together
-pub pair_short : (m : MachineImage) → IsValid m → (k : ℕ) → k < length m.avail → (d : ℕ × ℕ) → (get_or m.avail k d).1 ≤ (get_or m.avail k d).0 + 2 ^ 30
-pair_short m valid k within d =
-    let inside : IsInSegment m (get_or m.avail k d) = pair_inside m valid k within d in
-    let part : length (get_or m.segs inside.index inside.seg).bytes ≤ sum_by (λ (seg : Seg). length seg.bytes) m.segs = get_or-le-sum_by (λ (seg : Seg). length seg.bytes) m.segs inside.index inside.seg inside.within in
-    omega (arith, inside.from, inside.to, limited m valid, ap (λ (seg : Seg). length seg.bytes) inside.is)
 
 -- the windows
 pub record AreWindows (arch : Arch) (w : Windows) : Type 0 where
@@ -84,27 +68,31 @@ pub record AreWindows (arch : Arch) (w : Windows) : Type 0 where
   pub kernspan : w.kernspan % bytes_under (directory_height_of arch + 1) ≡ 0
   pub entries : 8 * (w.kernspan / bytes_under (directory_height_of arch)) < 2 ^ 32
   pub whole_pages : 8 * (w.kernspan / bytes_under (directory_height_of arch)) % 4096 ≡ 0
-  pub unshifted : (space_of arch).shifts_direct_map ≡ false → w.dmapphys ≡ 0
+  pub unshifted : (profile_of arch).shifts_direct_map ≡ false → w.dmapphys ≡ 0
 
-pub windows_kept : (arch : Arch) (w : Windows) → is_kernel_window arch w ≡ true → is_direct_map arch w ≡ true → AreWindows arch w
-windows_kept Amd64 w kernel direct = record {
-  kernbase = grind (arith, nat_tests);
-  kernspan = grind (arith, nat_tests);
-  entries = grind (arith, nat_tests);
-  whole_pages = grind (arith, nat_tests);
+windows_kept : (arch : Arch) (w : Windows) → is_direct_map arch w ≡ true → IsDivided arch w → AreWindows arch w
+windows_kept Amd64 w direct divided = record {
+  kernbase = divided.base;
+  kernspan = divided.span;
+  entries = omega (arith, divided.entries);
+  whole_pages = omega (arith, divided.span);
   unshifted = λ shifts. grind (arith, nat_tests);
 }
-windows_kept Arm64 w kernel direct = record {
-  kernbase = grind (arith, nat_tests);
-  kernspan = grind (arith, nat_tests);
-  entries = grind (arith, nat_tests);
-  whole_pages = grind (arith, nat_tests);
+windows_kept Arm64 w direct divided = record {
+  kernbase = divided.base;
+  kernspan = divided.span;
+  entries = omega (arith, divided.entries);
+  whole_pages = omega (arith, divided.span);
   unshifted = λ shifts. grind (arith, nat_tests);
 }
-windows_kept Riscv w kernel direct = record {
-  kernbase = grind (arith, nat_tests);
-  kernspan = grind (arith, nat_tests);
-  entries = grind (arith, nat_tests);
-  whole_pages = grind (arith, nat_tests);
+windows_kept Riscv w direct divided = record {
+  kernbase = divided.base;
+  kernspan = divided.span;
+  entries = omega (arith, divided.entries);
+  whole_pages = omega (arith, divided.span);
   unshifted = λ shifts. grind (arith, nat_tests);
 }
+
+pub windows_of : (m : MachineImage) → IsValid m → AreWindows m.arch m.windows
+windows_of m valid =
+    windows_kept m.arch m.windows (kept (is_direct_map m.arch m.windows) (rules_kept m valid.unbroken).direct_map) (window_divided m valid)

@@ -19,9 +19,10 @@ use Rattle.fd_mini.specs.Places.{places_of}
 use Rattle.fd_vmcore.specs.Sections.{has_bit, offset_of_bit, page_offset}
 use Rattle.fd_dump.specs.Dumped.{is_available, is_dumped, pages_with_bits, dumped_bits}
 use Rattle.fd_dump.specs.Minidump.{mini_header_of, memory_of, minidump_of}
+use Rattle.fd_dump.proofs.Sizes.{length-bits}
 use Rattle.fd_way.proofs.DumpedPages.{IsBacked, backed, dumped_available, page_of-start, Stands-dumped}
-use Rattle.fd_way.proofs.Limits.{IsRange, pair_whole}
-use Rattle.fd_way.proofs.Opening.{sections_of, clear_bits, length-bits, windows_of}
+use Rattle.fd_way.proofs.Limits.{IsRange, pair_whole, windows_of}
+use Rattle.fd_way.proofs.Opening.{sections_of, clear_bits}
 use Rattle.fd_way.proofs.SectionPlaces.{Stands-memory}
 use Rattle.fd_way.proofs.Stands.{Stands, Stands-inner}
 
@@ -30,7 +31,9 @@ second_passes : (a b : Bool) → b ≡ true → (a || b) ≡ true
 second_passes true b passes = refl
 second_passes false b passes = passes
 
-has_page : (pairs : List (ℕ × ℕ)) (k number : ℕ) → k < length pairs → first_page (get_or pairs k (0, 0)) ≤ number → number < end_page (get_or pairs k (0, 0)) → list_any (λ page. page == number) (pages_of pairs) ≡ true
+has_page :
+    (pairs : List (ℕ × ℕ)) (k number : ℕ) → k < length pairs → first_page (get_or pairs k (0, 0)) ≤ number → number < end_page (get_or pairs k (0, 0))
+    → list_any (λ page. page == number) (pages_of pairs) ≡ true
 unfolding consecutive
 has_page [] k number within from to = absurd (omega arith)
 has_page (pair ∷ pairs) zero number within from to =
@@ -38,11 +41,13 @@ has_page (pair ∷ pairs) zero number within from to =
     let index : ℕ = number - first_page pair in
     let is : get_or (range_with_len (first_page pair) count) index 0 ≡ number = get_or-range_with_len (first_page pair) count index 0 (omega arith) ∙ omega arith in
     let here : list_any (λ page. page == number) (range_with_len (first_page pair) count) ≡ true =
-    list_any_at (λ page. page == number) (range_with_len (first_page pair) count) index 0 (omega (arith, length-range_with_len (first_page pair) count)) (eq-eqb (get_or (range_with_len (first_page pair) count) index 0) number is) in
+    list_any_at (λ page. page == number) (range_with_len (first_page pair) count) index 0 (omega (arith, length-range_with_len (first_page pair) count))
+    (eq-eqb (get_or (range_with_len (first_page pair) count) index 0) number is) in
     list_any-append (λ page. page == number) (range_with_len (first_page pair) count) (pages_of pairs) ∙ ap (λ (b : Bool). b || list_any (λ page. page == number) (pages_of pairs)) here
 has_page (pair ∷ pairs) (suc k) number within from to =
     list_any-append (λ page. page == number) (consecutive (first_page pair) (end_page pair - first_page pair)) (pages_of pairs)
-    ∙ second_passes (list_any (λ page. page == number) (consecutive (first_page pair) (end_page pair - first_page pair))) (list_any (λ page. page == number) (pages_of pairs)) (has_page pairs k number (omega arith) from to)
+    ∙ second_passes (list_any (λ page. page == number) (consecutive (first_page pair) (end_page pair - first_page pair)))
+    (list_any (λ page. page == number) (pages_of pairs)) (has_page pairs k number (omega arith) from to)
 
 -- a number that has no place isn't there
 not_there : (number : ℕ) (numbers : List ℕ) → position (λ other. other == number) numbers ≡ None → list_any (λ other. other == number) numbers ≡ true → ⊥

@@ -3,13 +3,11 @@ use Rattle.std.proofs.Common.{◌≡◌, ℕ, zero, suc, ◌+◌, ◌-◌, ◌*�
 use Rattle.std.specs.Prelude.{◌==◌, if◌then◌else◌}
 use Rattle.std.specs.Int.{div_ceil}
 use Rattle.std.proofs.lemmas.Bool.Decides.{nat_tests}
-use Rattle.std.proofs.lemmas.List.{length-map}
 use Rattle.std.proofs.lemmas.List.Sums.{sum_by-cons}
+use Rattle.fd_bytes.specs.Profile.{profile_of}
 use Rattle.fd_bytes.specs.declared.arch.Arch.{Arch}
 use Rattle.fd_bytes.specs.declared.arch.Arch.TheVariants.{Amd64, Arm64, Riscv}
-use Rattle.fd_image.specs.Image.{MachineImage, IsValid, is_kernel_window, is_direct_map}
-use Rattle.fd_image.specs.Space.{space_of}
-use Rattle.fd_image.proofs.Valid.{rules_kept, kept}
+use Rattle.fd_image.specs.Image.{MachineImage, IsValid}
 use Rattle.fd_bitmap.specs.Bits.{bits_of, set_count}
 use Rattle.fd_bitmap.specs.Pages.{consecutive, pages_of, first_bad}
 use Rattle.fd_bitmap.proofs.ByteBits.{set_count-append}
@@ -19,16 +17,19 @@ use Rattle.fd_mini.specs.Places.{rounded_up, places_of}
 use Rattle.fd_mini.specs.Read.{header_in}
 use Rattle.fd_mini.specs.Readable.{IsReadable}
 use Rattle.fd_mini.specs.declared.header.MiniHeader.{MiniHeader}
+use Rattle.fd_mini.proofs.Layouts.{current_is_known}
 use Rattle.fd_vmcore.specs.Ranges.{pairs_in, ranges_of, pages_in}
 use Rattle.fd_vmcore.specs.Sections.{Sections, bits_in, pages_end, long_enough, by_pages, bad_range, by_ranges, by_header, opened}
 use Rattle.fd_vmcore.specs.declared.open.OpenFault.{OpenFault}
-use Rattle.fd_dump.specs.Dumped.{is_dumped, pages_with_bits, dumped_bits}
+use Rattle.fd_dump.specs.Dumped.{pages_with_bits, dumped_bits}
 use Rattle.fd_dump.specs.Minidump.{bitmap_bytes, mini_header_of, minidump_of}
-use Rattle.fd_way.proofs.AvailBack.{pairs_back, none_bad, few_pages}
+use Rattle.fd_dump.proofs.Limits.{small, pages_few}
+use Rattle.fd_dump.proofs.Sizes.{length-avail, length-bits}
+use Rattle.fd_way.proofs.AvailBack.{pairs_back, none_bad}
 use Rattle.fd_way.proofs.BitmapBits.{bits_of-filled}
 use Rattle.fd_way.proofs.DumpedPages.{length-memory}
-use Rattle.fd_way.proofs.Limits.{AreWindows, windows_kept, limited, pair_whole}
-use Rattle.fd_way.proofs.SectionPlaces.{length-avail_bytes, length-ranges, length-bitmap, begins, Stands-ranges, Stands-bitmap, length-file, ranges, bitmap}
+use Rattle.fd_way.proofs.Limits.{AreWindows, windows_of, pair_whole}
+use Rattle.fd_way.proofs.SectionPlaces.{length-ranges, length-bitmap, begins, Stands-ranges, Stands-bitmap, length-file, ranges, bitmap}
 use Rattle.fd_way.proofs.Stands.{range-Stands}
 
 -- that the page of each readable header is read as that header
@@ -48,30 +49,20 @@ clear_bits m = replicate (clear_count m) false
 abbrev pub sections_of : MachineImage → Sections
 sections_of m = record { header = mini_header_of m; pages = pages_of m.avail; bits = dumped_bits m ++ clear_bits m }
 
-pub windows_of : (m : MachineImage) → IsValid m → AreWindows m.arch m.windows
-windows_of m valid =
-    let rules = rules_kept m valid.unbroken in
-    windows_kept m.arch m.windows (kept (is_kernel_window m.arch m.windows) rules.kernel_window) (kept (is_direct_map m.arch m.windows) rules.direct_map)
-
--- there is a bit for each page
-pub length-bits : (m : MachineImage) → length (dumped_bits m) ≡ length (pages_of m.avail)
-length-bits m =
-    length-map (pages_with_bits m) (is_dumped m) ∙ length-map (pages_of m.avail) (λ page. page * 4096)
-
 set_count-clear : (count : ℕ) → set_count (replicate count false) ≡ 0
 set_count-clear zero = refl
 set_count-clear (suc count) = sum_by-cons (λ (bit : Bool). cond bit 1 0) false (replicate count false) ∙ omega (arith, set_count-clear count)
 
 -- a header of the current version, and with dmapphys where the direct map may begin at another address
-version_short : (arch : Arch) → (layout_of arch).version < 2 ^ 32
+version_short : (arch : Arch) → (profile_of arch).minidump_version < 2 ^ 32
 version_short Amd64 = lit< tt
 version_short Arm64 = lit< tt
 version_short Riscv = lit< tt
 
-dmapphys_kept : (arch : Arch) → (space_of arch).shifts_direct_map ≡ (layout_of arch).has_dmapphys
-dmapphys_kept Amd64 = refl
-dmapphys_kept Arm64 = refl
-dmapphys_kept Riscv = refl
+dmapphys_kept : (arch : Arch) (version : ℕ) → (profile_of arch).shifts_direct_map ≡ (layout_of arch version).has_dmapphys
+dmapphys_kept Amd64 version = refl
+dmapphys_kept Arm64 version = refl
+dmapphys_kept Riscv version = refl
 
 -- a file that is long enough isn't refused
 enough : (f : List ℕ) (need : ℕ) (answer : Result Sections OpenFault) → need ≤ length f → long_enough f need answer ≡ answer
@@ -89,10 +80,10 @@ module _ (m : MachineImage) (valid : IsValid m) where
 
   -- the sizes are within the reader's limits
   ranges_short : header.dumpavailsize ≤ 2 ^ 20
-  ranges_short = omega (arith, length-avail_bytes m.avail, limited m valid)
+  ranges_short = omega (arith, length-avail m.avail, small m valid)
 
   bitmap_short : header.bitmapsize ≤ 2 ^ 26
-  bitmap_short = omega (arith, length-bits m, few_pages m valid)
+  bitmap_short = omega (arith, length-bits m, pages_few m valid)
 
   readable : IsReadable header
   readable =
@@ -100,7 +91,7 @@ module _ (m : MachineImage) (valid : IsValid m) where
       record {
         typed = record {
           version = version_short m.arch;
-          msgbufsize = omega (arith, limited m valid);
+          msgbufsize = omega (arith, small m valid);
           bitmapsize = omega (arith, bitmap_short);
           pmapsize = windows.entries;
           kernbase = typed.kernel_window.0;
@@ -110,8 +101,8 @@ module _ (m : MachineImage) (valid : IsValid m) where
           dumpavailsize = omega (arith, ranges_short);
           flags = lit< tt;
         };
-        current = refl;
-        no_dmapphys = λ none. windows.unshifted (dmapphys_kept m.arch ∙ none);
+        known = current_is_known m.arch;
+        no_dmapphys = λ none. windows.unshifted (dmapphys_kept m.arch header.version ∙ none);
         no_flags = λ none. refl;
         small_granule = refl;
         avail_within = ranges_short;
@@ -121,13 +112,14 @@ module _ (m : MachineImage) (valid : IsValid m) where
   -- the ranges and their pages
   ranges_back : ranges_of file header ≡ m.avail
   ranges_back =
-      ap (λ (section : List ℕ). pairs_in section header.dumpavailsize) (range-Stands (ranges m windows) file (places_of header).avail header.dumpavailsize (Stands-ranges m windows) (length-ranges m windows))
+      ap (λ (section : List ℕ). pairs_in section header.dumpavailsize)
+      (range-Stands (ranges m windows) file (places_of header).avail header.dumpavailsize (Stands-ranges m windows) (length-ranges m windows))
       ∙ ap (pairs_in (ranges m windows)) (sym (length-ranges m windows))
       ∙ pairs_back m.avail valid.typed.avail (λ k within. omega (arith, pair_whole m valid k within (0, 0)))
 
   some_ranges : (header.dumpavailsize == 0) ≡ false
   some_ranges =
-      let some : 0 < header.dumpavailsize = omega (arith, length-avail_bytes m.avail) in
+      let some : 0 < header.dumpavailsize = omega (arith, length-avail m.avail) in
       grind (arith, nat_tests)
 
   none_is_bad : bad_range file header ≡ None

@@ -35,8 +35,9 @@ use Rattle.fd_dump.specs.KernelRead as dump
 use Rattle.fd_dump.specs.KernelRead.{by_page, byte_of, kernel_read}
 use Rattle.fd_dump.specs.Minidump.{mini_header_of, minidump_of}
 use Rattle.fd_dump.specs.Translation.{is_in_kernel_window, is_in_direct_map, by_tables, translated}
+use Rattle.fd_way.proofs.Limits.{windows_of}
 use Rattle.fd_way.proofs.Located.{IsDumpedAt, IsNotDumped, located}
-use Rattle.fd_way.proofs.Opening.{AreReadBack, sections_of, windows_of, opens}
+use Rattle.fd_way.proofs.Opening.{AreReadBack, sections_of, opens}
 use Rattle.fd_way.proofs.Stands.{get_or-Stands}
 use Rattle.fd_way.proofs.Translated.{by_directory_is}
 use Rattle.fd_way.proofs.Units.{same_window}
@@ -76,8 +77,14 @@ module _ (m : MachineImage) (valid : IsValid m) where
   same_place : (va : ℕ) → placed file sections va ≡ translated m va
   unfolding placed translated
   same_place va =
-      ap (λ (window : Bool). if window_is_first m.arch && window then by_directory file sections va else if is_in_direct_map w va then by_direct_map (mini_header_of m) va else if window then by_directory file sections va else Err (Outside va)) (same_window m.arch w va (windows_of m valid))
-      ∙ either_order (window_is_first m.arch) (is_in_kernel_window w va) (is_in_direct_map w va) (by_directory file sections va) (by_tables m va) (by_direct_map (mini_header_of m) va) (Err (Outside va)) (apart va) (directory_is va)
+      ap (λ (window : Bool).
+      if window_is_first (mini_header_of m) && window then by_directory file sections va
+      else if is_in_direct_map w va then by_direct_map (mini_header_of m) va
+      else if window then by_directory file sections va
+      else Err (Outside va))
+      (same_window m.arch w va (windows_of m valid))
+      ∙ either_order (window_is_first (mini_header_of m)) (is_in_kernel_window w va) (is_in_direct_map w va) (by_directory file sections va) (by_tables m va)
+      (by_direct_map (mini_header_of m) va) (Err (Outside va)) (apart va) (directory_is va)
 
   -- the byte of a page that stands in the file, and of one that isn't dumped
   same_dumped : (va pa : ℕ) → IsDumpedAt m valid pa → kvm.by_physical file sections va (Ok pa) ≡ dump.by_physical m va (Ok pa)

@@ -69,7 +69,9 @@ module _ (t : PageTables) where
       subst (λ h. IsTable (kind_at t h va)) here (tables_above va more (height + 1) entry.0 (omega arith) entry.1)
 
   -- the leaf at an address is that of its lowest entry
-  pub leaf_at-lowest : (height va bits : ℕ) → height < t.levels → entry_at t height va ≡ Some bits → ((h : ℕ) → h < height → entry_at t h va ≡ None) → leaf_at t va ≡ leaf_of_kind height bits (t.kind_of bits height)
+  pub leaf_at-lowest :
+      (height va bits : ℕ) → height < t.levels → entry_at t height va ≡ Some bits → ((h : ℕ) → h < height → entry_at t h va ≡ None)
+      → leaf_at t va ≡ leaf_of_kind height bits (t.kind_of bits height)
   leaf_at-lowest height va bits within some none =
       leaf_below-only t va height
       (λ h above high.
@@ -78,7 +80,9 @@ module _ (t : PageTables) where
       none t.levels within (omega arith)
       ∙ ap (λ entry. leaf_of_entry t.kind_of height entry) some
 
-  pub leaf_at-no_table : (height va bits : ℕ) → height < t.levels → entry_at t height va ≡ Some bits → ¬ IsTable (t.kind_of bits height) → leaf_at t va ≡ leaf_of_kind height bits (t.kind_of bits height)
+  pub leaf_at-no_table :
+      (height va bits : ℕ) → height < t.levels → entry_at t height va ≡ Some bits → ¬ IsTable (t.kind_of bits height)
+      → leaf_at t va ≡ leaf_of_kind height bits (t.kind_of bits height)
   leaf_at-no_table height va bits within some no_table =
       let is : kind_at t height va ≡ t.kind_of bits height = ap (λ entry. kind_of_entry t.kind_of height entry) some in
       leaf_at-lowest height va bits within some
@@ -108,7 +112,9 @@ module _ (t : PageTables) where
     pub entry : entry_at t leaf.height va ≡ Some leaf.bits
     pub kind : t.kind_of leaf.bits leaf.height ≡ Leaf leaf.address
 
-  leaf_from_kind : (va height bits : ℕ) (leaf : MappedBy) (kind : Kind) → entry_at t height va ≡ Some bits → t.kind_of bits height ≡ kind → leaf_of_kind height bits kind ≡ Some leaf → IsLeafOf va (suc height) leaf
+  leaf_from_kind :
+      (va height bits : ℕ) (leaf : MappedBy) (kind : Kind) → entry_at t height va ≡ Some bits → t.kind_of bits height ≡ kind
+      → leaf_of_kind height bits kind ≡ Some leaf → IsLeafOf va (suc height) leaf
   leaf_from_kind va height bits leaf (Leaf address) some is found =
       let same : record { height = height; bits = bits; address = address } ≡ leaf = cc in
       subst (λ l. IsLeafOf va (suc height) l) same (record { below = omega arith; entry = some; kind = is })
@@ -119,7 +125,9 @@ module _ (t : PageTables) where
   leaf_from_entry va height leaf None some found = cc
   leaf_from_entry va height leaf (Some bits) some found = leaf_from_kind va height bits leaf (t.kind_of bits height) some refl found
 
-  leaf_from_first : (va n : ℕ) (leaf : MappedBy) (first later : Option MappedBy) → option_or first later ≡ Some leaf → (first ≡ Some leaf → IsLeafOf va (suc n) leaf) → (later ≡ Some leaf → IsLeafOf va n leaf) → IsLeafOf va (suc n) leaf
+  leaf_from_first :
+      (va n : ℕ) (leaf : MappedBy) (first later : Option MappedBy) → option_or first later ≡ Some leaf → (first ≡ Some leaf → IsLeafOf va (suc n) leaf)
+      → (later ≡ Some leaf → IsLeafOf va n leaf) → IsLeafOf va (suc n) leaf
   leaf_from_first va n leaf (Some first) later is here below = here is
   leaf_from_first va n leaf None later is here below =
       let found : IsLeafOf va n leaf = below is in

@@ -8,9 +8,9 @@ use Rattle.std.proofs.lemmas.List.FromFn.{length-range_with_len, get_or-range_wi
 use Rattle.fd_bytes.specs.Field.{u64_le_at}
 use Rattle.fd_bytes.specs.declared.arch.Arch.{Arch}
 use Rattle.fd_bytes.specs.declared.arch.Arch.TheVariants.{Amd64, Arm64, Riscv}
-use Rattle.fd_image.specs.Image.{MachineImage, IsValid}
+use Rattle.fd_image.specs.Image.{MachineImage, IsValid, levels_of}
 use Rattle.fd_image.specs.Physical.{page_start}
-use Rattle.fd_pte.specs.Architecture.{kind_of, directory_height_of, levels_of}
+use Rattle.fd_pte.specs.Architecture.{kind_of, directory_height_of}
 use Rattle.fd_pte.specs.Entry.{bytes_under, IsPlaced}
 use Rattle.fd_pte.specs.declared.entry.Kind.{Kind}
 use Rattle.fd_pte.specs.declared.entry.Kind.TheVariants.{Absent, Table, Leaf}
@@ -32,12 +32,13 @@ use Rattle.fd_dump.specs.Dumped.{tables_in, dumps_last_tables, is_dumped}
 use Rattle.fd_dump.specs.Minidump.{form_of, entry_count, directory_of, mini_header_of, minidump_of}
 use Rattle.fd_dump.specs.Translation.{by_leaf, is_table_missing, by_tables}
 use Rattle.fd_way.proofs.ImageWords.{word_short, word_of-page}
+use Rattle.fd_way.proofs.Limits.{windows_of}
 use Rattle.fd_way.proofs.Located.{IsDumpedAt, IsNotDumped, located}
-use Rattle.fd_way.proofs.Opening.{sections_of, windows_of}
+use Rattle.fd_way.proofs.Opening.{sections_of}
 use Rattle.fd_way.proofs.SectionPlaces.{Stands-directory}
 use Rattle.fd_way.proofs.Stands.{Stands, Stands-inner, Stands-piece, u64_le_at-Stands, u64_le_at-within}
 use Rattle.fd_way.proofs.TableEntries.{IsLeafOf, entry_at-same, leaf_at-lowest, leaf_at-no_table, none_below, leaf_below-same, leaf_found, entry_short}
-use Rattle.fd_way.proofs.Units.{some_levels, placed_kind, zero_absent, IsUnitLeaf, expanded, unit_start, IsInUnit, in_unit, place_in_leaf}
+use Rattle.fd_way.proofs.Units.{some_levels, most_levels, placed_kind, zero_absent, IsUnitLeaf, expanded, unit_start, IsInUnit, in_unit, place_in_leaf}
 
 -- a table that isn't dumped is missing where tables ought to be dumped
 missing_nowhere : (m : MachineImage) (last : Option ℕ) → dumps_last_tables m.arch ≡ false → is_table_missing m last ≡ false
@@ -84,7 +85,7 @@ module _ (m : MachineImage) (valid : IsValid m) where
   abbrev start : ℕ → ℕ
   start va = unit_start m.arch m.windows.kernbase va
 
-  short : (h va bits : ℕ) → h < levels_of m.arch → entry_at tables h va ≡ Some bits → bits < 2 ^ 64
+  short : (h va bits : ℕ) → h < levels_of m → entry_at tables h va ≡ Some bits → bits < 2 ^ 64
   short h va bits within some = entry_short tables (word_short m valid) h va bits within some
 
   -- what the tables say, where no table is missing
@@ -126,15 +127,15 @@ module _ (m : MachineImage) (valid : IsValid m) where
         let word : ℕ = u64_le_at dumped.page (8 * index) in
         let read : table_entry file dumped.place va ≡ word = u64_le_at-within dumped.page file dumped.place (8 * index) dumped.stands (omega (arith, dumped.whole)) in
         let entry : entry_at tables 0 va ≡ Some word =
-        entry_at-below tables 0 va (omega (arith, some_levels m.arch, one.0))
+        entry_at-below tables 0 va (omega (arith, some_levels m, one.0))
         ∙ ap (λ kind. word_under tables 0 va kind) kind_is
         ∙ word_of-page m valid table index dumped.page aligned within dumped.is in
-        let levels : 0 < levels_of m.arch = omega (arith, some_levels m.arch) in
+        let levels : 0 < levels_of m = omega (arith, some_levels m) in
         let leaf : leaf_at tables va ≡ leaf_of_kind 0 word (kind_of m.arch word 0) = leaf_at-lowest tables 0 va word levels entry (λ h below. absurd (omega arith)) in
         let there : is_table_missing m (last_table tables va) ≡ false = missing_is ∙ ap not (ap (is_dumped m) (sym aligned) ∙ dumped.dumped) in
         ap (by_table file m.arch va) dumped.offset
         ∙ ap (λ n. by_table_entry va (kind_of m.arch n 0)) read
-        ∙ by_lowest va word (kind_of m.arch word 0) (placed_kind m.arch word 0 (short 0 va word levels entry) levels)
+        ∙ by_lowest va word (kind_of m.arch word 0) (placed_kind m.arch word 0 (short 0 va word levels entry) (omega arith))
         ∙ sym (by_tables_is va (leaf_of_kind 0 word (kind_of m.arch word 0)) there leaf)
 
     by_last_table : by_table file m.arch va (page_offset sections table) ≡ by_tables m va
@@ -154,14 +155,14 @@ module _ (m : MachineImage) (valid : IsValid m) where
     by_kind bits (Leaf address) some is placed =
         let kind_is : kind_at tables height va ≡ Leaf address = ap (λ entry. kind_of_entry (kind_of m.arch) height entry) some ∙ is in
         let leaf : leaf_at tables va ≡ Some (record { height = height; bits = bits; address = address }) =
-        leaf_at-no_table tables height va bits (some_levels m.arch) some (leaf_names_none address (kind_of m.arch bits height) is) ∙ ap (leaf_of_kind height bits) is in
+        leaf_at-no_table tables height va bits (some_levels m) some (leaf_names_none address (kind_of m.arch bits height) is) ∙ ap (leaf_of_kind height bits) is in
         ap (λ n. Ok (address + n)) place.inside
         ∙ sym (by_tables_is va (Some (record { height = height; bits = bits; address = address })) (none_missing va (leaf_names_none address (kind_at tables height va) kind_is)) leaf)
     by_kind bits (Table table) some is placed = by_last_table va bits table some is placed
     by_kind bits Absent some is placed =
         let kind_is : kind_at tables height va ≡ Absent = ap (λ entry. kind_of_entry (kind_of m.arch) height entry) some ∙ is in
         let leaf : leaf_at tables va ≡ None =
-        leaf_at-no_table tables height va bits (some_levels m.arch) some (absent_names_none (kind_of m.arch bits height) is) ∙ ap (leaf_of_kind height bits) is in
+        leaf_at-no_table tables height va bits (some_levels m) some (absent_names_none (kind_of m.arch bits height) is) ∙ ap (leaf_of_kind height bits) is in
         sym (by_tables_is va None (none_missing va (absent_names_none (kind_at tables height va) kind_is)) leaf)
 
     -- they have none: the leaf is a larger one, or there is none
@@ -170,14 +171,14 @@ module _ (m : MachineImage) (valid : IsValid m) where
       names_none = absent_names_none (kind_at tables height va) (ap (λ entry. kind_of_entry (kind_of m.arch) height entry) none)
 
       none_at_start : entry_at tables height (start va) ≡ None
-      none_at_start = sym (entry_at-same tables height va (start va) place.same (levels_of m.arch - height - 1) height (omega arith) (omega (arith, some_levels m.arch))) ∙ none
+      none_at_start = sym (entry_at-same tables height va (start va) place.same (levels_of m - height - 1) height (omega arith) (omega (arith, some_levels m))) ∙ none
 
       same_leaf : leaf_at tables va ≡ leaf_at tables (start va)
       same_leaf =
-          leaf_below-same tables va (start va) (levels_of m.arch) (λ h within.
+          leaf_below-same tables va (start va) (levels_of m) (λ h within.
           elim (cases_lt height h) [
-            | inl above ↦ entry_at-same tables height va (start va) place.same (levels_of m.arch - h - 1) h (omega arith) (omega arith)
-            | inr low ↦ none_below tables height va (some_levels m.arch) none h low ∙ sym (none_below tables height (start va) (some_levels m.arch) none_at_start h low)
+            | inl above ↦ entry_at-same tables height va (start va) place.same (levels_of m - h - 1) h (omega arith) (omega arith)
+            | inr low ↦ none_below tables height va (some_levels m) none h low ∙ sym (none_below tables height (start va) (some_levels m) none_at_start h low)
           ])
 
       by_larger_leaf : (leaf : Option MappedBy) → leaf_at tables (start va) ≡ leaf → Agrees va (expanded_leaf (form_of m) (start va) leaf)
@@ -186,11 +187,12 @@ module _ (m : MachineImage) (valid : IsValid m) where
         same = ap (by_entry file sections va) (zero_absent m.arch) ∙ sym (by_tables_is va None (none_missing va names_none) (same_leaf ∙ is));
       }
       by_larger_leaf (Some leaf) is =
-          let of_entry : IsLeafOf tables (start va) (levels_of m.arch) leaf = leaf_found tables (start va) (levels_of m.arch) leaf is in
+          let of_entry : IsLeafOf tables (start va) (levels_of m) leaf = leaf_found tables (start va) (levels_of m) leaf is in
           let index : ℕ = start va % bytes_under leaf.height / unit in
           let larger : height < leaf.height = above_none leaf of_entry in
           let leaf_of_unit : IsUnitLeaf m.arch (expanded_leaf (form_of m) (start va) (Some leaf)) (leaf.address + index * unit) =
-          expanded m.arch leaf.bits leaf.height index leaf.address (short leaf.height (start va) leaf.bits of_entry.below of_entry.entry) of_entry.below larger (unit_within (start va) height leaf.height larger) of_entry.kind in
+          expanded m.arch leaf.bits leaf.height index leaf.address (short leaf.height (start va) leaf.bits of_entry.below of_entry.entry)
+          (omega (arith, of_entry.below, most_levels m)) larger (unit_within (start va) height leaf.height larger) of_entry.kind in
           let inside : index * unit + va % unit ≡ va % bytes_under leaf.height = place_in_leaf height leaf.height va (start va) larger place.same in
           let same_place : leaf.address + index * unit + (va - m.windows.kernbase) % unit ≡ leaf.address + va % bytes_under leaf.height = omega (arith, place.inside, inside) in
           record {
@@ -200,27 +202,28 @@ module _ (m : MachineImage) (valid : IsValid m) where
                 ∙ sym (by_tables_is va (Some leaf) (none_missing va names_none) (same_leaf ∙ is));
           }
         where
-          above_none : (leaf : MappedBy) → IsLeafOf tables (start va) (levels_of m.arch) leaf → height < leaf.height
+          above_none : (leaf : MappedBy) → IsLeafOf tables (start va) (levels_of m) leaf → height < leaf.height
           above_none leaf of_entry =
               elim (cases_lt height leaf.height) [
                 | inl above ↦ above
                 | inr low ↦
-                    let no_such : None ≡ Some leaf.bits = sym (none_below tables height (start va) (some_levels m.arch) none_at_start leaf.height low) ∙ of_entry.entry in
+                    let no_such : None ≡ Some leaf.bits = sym (none_below tables height (start va) (some_levels m) none_at_start leaf.height low) ∙ of_entry.entry in
                     cc
               ]
 
     by_option : (entry : Option ℕ) → entry_at tables height va ≡ entry → Agrees va (entry_or_expanded (form_of m) (start va) entry (leaf_at tables (start va)))
     by_option None none = by_larger_leaf none (leaf_at tables (start va)) refl
     by_option (Some bits) some =
-        let fits : bits < 2 ^ 64 = short height va bits (some_levels m.arch) some in
+        let fits : bits < 2 ^ 64 = short height va bits (some_levels m) some in
         record {
           fits = fits;
-          same = by_kind bits (kind_of m.arch bits height) some refl (placed_kind m.arch bits height fits (some_levels m.arch));
+          same = by_kind bits (kind_of m.arch bits height) some refl (placed_kind m.arch bits height fits (omega (arith, some_levels m, most_levels m)));
         }
 
     agrees : Agrees va (walk.directory_entry tables (form_of m) (start va))
     agrees =
-        let same : entry_at tables height va ≡ entry_at tables height (start va) = entry_at-same tables height va (start va) place.same (levels_of m.arch - height - 1) height (omega arith) (omega (arith, some_levels m.arch)) in
+        let same : entry_at tables height va ≡ entry_at tables height (start va) =
+        entry_at-same tables height va (start va) place.same (levels_of m - height - 1) height (omega arith) (omega (arith, some_levels m)) in
         by_option (entry_at tables height (start va)) same
 
     -- the entry is read in the file
@@ -236,7 +239,8 @@ module _ (m : MachineImage) (valid : IsValid m) where
         subst (λ number. Stands (to_le_bytes w64 (entry number)) (8 * index) (directory_of m)) at
         (Stands-piece (λ (number : ℕ). to_le_bytes w64 (entry number)) 8 (range_with_len 0 (entry_count m)) index 0 (λ number. refl) (omega (arith, length-range_with_len 0 (entry_count m)))) in
         u64_le_at-Stands file ((places_of header).directory + 8 * index) (entry index)
-        (Stands-inner (to_le_bytes w64 (entry index)) (directory_of m) file (8 * index) (places_of header).directory ((places_of header).directory + 8 * index) refl piece (Stands-directory m (windows_of m valid)))
+        (Stands-inner (to_le_bytes w64 (entry index)) (directory_of m) file (8 * index) (places_of header).directory
+        ((places_of header).directory + 8 * index) refl piece (Stands-directory m (windows_of m valid)))
         agrees.fits
 
     pub by_directory_is : index < entry_count m → by_directory file sections va ≡ by_tables m va

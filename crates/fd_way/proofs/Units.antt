@@ -2,36 +2,36 @@
 use Rattle.std.proofs.Common.{◌≡◌, ℕ, ◌+◌, ◌-◌, ◌*◌, ◌/◌, ◌%◌, ◌<◌, ◌≤◌, ◌^◌, ◌&&◌, nat_le, nat_lt, refl, sym, ◌∙◌, ap, arith, lit<, lit≤}
 use Rattle.std.proofs.lemmas.Bool.Decides.{nat_tests}
 use Rattle.std.proofs.lemmas.Nat.{mod-pow-add, field_of}
+use Rattle.fd_bytes.specs.Profile.{profile_of}
 use Rattle.fd_bytes.specs.declared.arch.Arch.{Arch}
 use Rattle.fd_bytes.specs.declared.arch.Arch.TheVariants.{Amd64, Arm64, Riscv}
-use Rattle.fd_image.specs.Image.{kernel_end}
+use Rattle.fd_image.specs.Image.{MachineImage, kernel_end, levels_of}
 use Rattle.fd_image.specs.declared.parts.Windows.{Windows}
 use Rattle.fd_pte.specs.Amd64Laws.{amd64_placed, amd64_expanded}
-use Rattle.fd_pte.specs.Architecture.{kind_of, directory_height_of, expansion_of, levels_of}
+use Rattle.fd_pte.specs.Architecture.{kind_of, directory_height_of, expansion_of}
 use Rattle.fd_pte.specs.Arm64Laws.{arm64_placed, arm64_expanded}
 use Rattle.fd_pte.specs.Entry.{bytes_under, units_under, IsPlaced}
 use Rattle.fd_pte.specs.RiscvLaws.{riscv_placed, riscv_expanded}
 use Rattle.fd_pte.specs.declared.entry.Kind.TheVariants.{Absent, Leaf}
 use Rattle.fd_way.proofs.Limits.{AreWindows}
 
-pub some_levels : (arch : Arch) → directory_height_of arch < levels_of arch
-some_levels Amd64 = lit< tt
-some_levels Arm64 = lit< tt
-some_levels Riscv = lit< tt
+-- the page tables have at most 4 levels, and some above the directory's height
+levels_between : (arch : Arch) → (directory_height_of arch < (profile_of arch).levels) × ((profile_of arch).levels ≤ 4)
+levels_between Amd64 = (lit< tt, lit≤ tt)
+levels_between Arm64 = (lit< tt, lit≤ tt)
+levels_between Riscv = (lit< tt, lit≤ tt)
 
-most_levels : (arch : Arch) → levels_of arch ≤ 4
-most_levels Amd64 = lit≤ tt
-most_levels Arm64 = lit≤ tt
-most_levels Riscv = lit≤ tt
+pub some_levels : (m : MachineImage) → directory_height_of m.arch < levels_of m
+some_levels m = (levels_between m.arch).0
+
+pub most_levels : (m : MachineImage) → levels_of m ≤ 4
+most_levels m = (levels_between m.arch).1
 
 -- an entry's kind is one that its height has
-placed_below : (arch : Arch) (bits height : ℕ) → bits < 2 ^ 64 → height ≤ 3 → IsPlaced height (kind_of arch bits height)
-placed_below Amd64 bits height fits low = amd64_placed bits height fits low
-placed_below Arm64 bits height fits low = arm64_placed bits height fits low
-placed_below Riscv bits height fits low = riscv_placed bits height fits low
-
-pub placed_kind : (arch : Arch) (bits height : ℕ) → bits < 2 ^ 64 → height < levels_of arch → IsPlaced height (kind_of arch bits height)
-placed_kind arch bits height fits low = placed_below arch bits height fits (omega (arith, most_levels arch))
+pub placed_kind : (arch : Arch) (bits height : ℕ) → bits < 2 ^ 64 → height ≤ 3 → IsPlaced height (kind_of arch bits height)
+placed_kind Amd64 bits height fits low = amd64_placed bits height fits low
+placed_kind Arm64 bits height fits low = arm64_placed bits height fits low
+placed_kind Riscv bits height fits low = riscv_placed bits height fits low
 
 -- the entry 0 is absent
 pub zero_absent : (arch : Arch) → kind_of arch 0 (directory_height_of arch) ≡ Absent
@@ -44,16 +44,16 @@ pub record IsUnitLeaf (arch : Arch) (bits address : ℕ) : Type 0 where
   pub leaf : kind_of arch bits (directory_height_of arch) ≡ Leaf address
   pub fits : bits < 2 ^ 64
 
-expanded_below : (arch : Arch) (bits height index address : ℕ) → bits < 2 ^ 64 → height ≤ 3 → directory_height_of arch < height → index < units_under (directory_height_of arch) height → kind_of arch bits height ≡ Leaf address → IsUnitLeaf arch (expansion_of arch bits height index) (address + index * bytes_under (directory_height_of arch))
-expanded_below Amd64 bits height index address fits low larger within leaf =
+pub expanded :
+    (arch : Arch) (bits height index address : ℕ) → bits < 2 ^ 64 → height ≤ 3 → directory_height_of arch < height
+    → index < units_under (directory_height_of arch) height → kind_of arch bits height ≡ Leaf address
+    → IsUnitLeaf arch (expansion_of arch bits height index) (address + index * bytes_under (directory_height_of arch))
+expanded Amd64 bits height index address fits low larger within leaf =
     let unit = amd64_expanded bits height index address fits low larger within leaf in record { leaf = unit.leaf; fits = unit.fits }
-expanded_below Arm64 bits height index address fits low larger within leaf =
+expanded Arm64 bits height index address fits low larger within leaf =
     let unit = arm64_expanded bits height index address fits low larger within leaf in record { leaf = unit.leaf; fits = unit.fits }
-expanded_below Riscv bits height index address fits low larger within leaf =
+expanded Riscv bits height index address fits low larger within leaf =
     let unit = riscv_expanded bits height index address fits low larger within leaf in record { leaf = unit.leaf; fits = unit.fits }
-
-pub expanded : (arch : Arch) (bits height index address : ℕ) → bits < 2 ^ 64 → height < levels_of arch → directory_height_of arch < height → index < units_under (directory_height_of arch) height → kind_of arch bits height ≡ Leaf address → IsUnitLeaf arch (expansion_of arch bits height index) (address + index * bytes_under (directory_height_of arch))
-expanded arch bits height index address fits low = expanded_below arch bits height index address fits (omega (arith, most_levels arch))
 
 -- the first address of the unit of an address in the kernel window
 abbrev pub unit_start : Arch → (kernbase va : ℕ) → ℕ
@@ -80,7 +80,9 @@ same_window Riscv w va windows =
     let span : w.kernspan % bytes_under 1 ≡ 0 = windows.kernspan in grind (arith, nat_tests)
 
 -- where an address stands in a larger leaf: in its unit, behind the units before
-pub place_in_leaf : (low high va v : ℕ) → low < high → va / bytes_under low ≡ v / bytes_under low → v % bytes_under high / bytes_under low * bytes_under low + va % bytes_under low ≡ va % bytes_under high
+pub place_in_leaf :
+    (low high va v : ℕ) → low < high → va / bytes_under low ≡ v / bytes_under low
+    → v % bytes_under high / bytes_under low * bytes_under low + va % bytes_under low ≡ va % bytes_under high
 place_in_leaf low high va v larger same =
     let more : ℕ = 9 * (high - low) in
     let exponent : 12 + 9 * high ≡ more + (12 + 9 * low) = omega arith in

@@ -1,12 +1,8 @@
 -- The printed text of a read of kernel memory.
-use Rattle.std.specs.Prelude.{ℕ, zero, suc, ◌+◌, ◌-◌, false, List, [], ◌∷◌, ◌++◌, length, take, drop, replicate}
-use Rattle.std.specs.Fmt.{digits}
+use Rattle.std.specs.Prelude.{ℕ, zero, suc, ◌+◌, List, [], ◌∷◌, ◌++◌, length, take, drop}
 use Rattle.std.specs.Int.{div_ceil}
 use Rattle.std.specs.List.{flat_map}
-
--- a number in hexadecimal digits, filled with zeros from the front
-abbrev pub hex : ℕ → ℕ → List ℕ
-hex width n = replicate (width - length (digits 16 false n)) 48 ++ digits 16 false n
+use Rattle.fd_bytes.specs.Printed.{hex}
 
 -- a space, and a byte in two digits
 abbrev pub byte_text : ℕ → List ℕ

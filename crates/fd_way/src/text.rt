@@ -1,7 +1,9 @@
 //! The printed text of a read of kernel memory.
-ghost use Rattle.std.specs.Prelude.{◌≡◌, ◌≤◌, ◌+◌, ◌^◌, ◌++◌, length, IfOk, OnOk};
+ghost use Rattle.std.specs.Prelude.{◌≡◌, ◌<◌, ◌≤◌, ◌+◌, ◌^◌, ◌++◌, false, length, IfOk, OnOk};
+ghost use Rattle.std.specs.Fmt.{digit_glyph};
 ghost use Rattle.std.specs.String.{string_bytes};
-ghost use Rattle.fd_way.specs.ReadText.{byte_text, hex, line_of, read_text};
+ghost use Rattle.fd_bytes.specs.Printed.{hex};
+ghost use Rattle.fd_way.specs.ReadText.{byte_text, line_of, read_text};
 
 use std::alloc::{AllocError, Global};
 use std::fmt::Write;
@@ -10,19 +12,33 @@ use std::fmt::Write;
 const LINE: usize = 16;
 
 // Appends an address, in 16 digits.
-#[tactic(auto, using(crate::proofs::Hex::padded_hex))]
+#[tactic(auto, using(fd_bytes::proofs::Hex::padded_hex))]
 fn put_address(text: &mut String, va: u64) -> Result<(), AllocError>
     ensures { OnOk result (string_bytes text.new ≡ string_bytes text.old ++ hex 16 va) }
 {
     write!(text, "{va:016x}")
 }
 
+// The hexadecimal digit of a number.
+fn digit(value: u8) -> char
+    requires { value < 16 }
+    ensures digit { result ≡ digit_glyph false value }
+    ensures ascii { result < 128 }
+{
+    char::from(if value < 10 {
+        b'0' + value
+    } else {
+        b'a' + (value - 10)
+    })
+}
+
 // Appends a space, and a byte in two digits.
-#[tactic(auto, using(crate::proofs::Hex::padded_hex))]
 fn put_byte(text: &mut String, byte: u8) -> Result<(), AllocError>
     ensures { OnOk result (string_bytes text.new ≡ string_bytes text.old ++ byte_text byte) }
 {
-    write!(text, " {byte:02x}")
+    text.push(' ')?;
+    text.push(digit(byte / 16))?;
+    text.push(digit(byte % 16))
 }
 
 // Appends a line.

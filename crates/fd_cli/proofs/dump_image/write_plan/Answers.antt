@@ -1,10 +1,10 @@
 use Rattle.std.proofs.Common.{◌∙◌, ap}
-use Rattle.fd_dump.specs.Header.{header_of}
-use Rattle.fd_cli.proofs.Begun.{begun_of_ok, not_refused}
+use Rattle.fd_cli.proofs.Dumps.{on_no_room, refused_for_room}
 use Rattle.fd_cli.proofs.dump_image.write_plan.Goals as goal
 
-pub returns-in-Ok-clause-entries : goal.returns-in-Ok-clause-entries
-returns-in-Ok-clause-entries g c =
-    begun_of_ok _ _ _ _ c.args.image.now _ c.header-header.result c.in-Ok.field-0 (c.pieces-pieces.ensures.to_come ∙ c.requires.plan)
-    (c.header-header.ensures.value ∙ ap (header_of c.args.image.now) c.block.ensures) c.requires.partition
-    (λ short. not_refused c.in-Ok.field-0 _ (c.in-Ok.ensures.room short)) c.in-Ok.ensures.whole c.in-Ok.ensures.stopped
+pub returns-in-Err-NoRoom-clause-works : goal.returns-in-Err-NoRoom-clause-works
+returns-in-Err-NoRoom-clause-works g c =
+    refused_for_room _ _ c.args.image.now _ c.in-Err-NoRoom.field-0 c.in-Err-NoRoom.room _ c.in-Err-NoRoom.field-0-is
+    (c.pieces-pieces.ensures.to_come ∙ c.requires.plan) (on_no_room _ _ _ c.in-Err-NoRoom.field-0-is c.in-Err-NoRoom.ensures.no_room)
+    c.in-Err-NoRoom.ensures.room (ap g.S.Site.seen (on_no_room _ _ _ c.in-Err-NoRoom.field-0-is c.in-Err-NoRoom.ensures.untouched))
+    c.in_ok-reply-in-Err-NoRoom.ensures

@@ -1,3 +1,4 @@
+-- The bytes of the bitmap so far are appended.
 use Rattle.std.proofs.Common.{◌≡◌, ◌++◌, map}
 use Rattle.std.specs.List.{range_with_len}
 use Rattle.fd_bitmap.specs.Bits.{byte_at}

@@ -1,3 +1,4 @@
+-- The pages of the directory so far are appended.
 use Rattle.std.proofs.Common.{◌≡◌, ◌++◌, ◌*◌}
 use Rattle.fd_walk.specs.Directory.{directory_bytes}
 use Rattle.fd_dump.specs.Dumped.{tables_in}

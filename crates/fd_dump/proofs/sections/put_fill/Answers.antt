@@ -13,4 +13,5 @@ some_zeros size =
 
 pub returns : goal.returns
 returns c =
-    appends c.extend_from_slice.result c.extend_from_slice.new.self.items c.args.out.now.items _ (replicate (rounded_up c.args.size - c.args.size) 0) c.extend_from_slice.ensures.items (some_zeros c.args.size)
+    appends c.extend_from_slice.result c.extend_from_slice.new.self.items c.args.out.now.items _ (replicate (rounded_up c.args.size - c.args.size) 0)
+    c.extend_from_slice.ensures.items (some_zeros c.args.size)

@@ -1,3 +1,4 @@
+-- The dumped pages so far are appended.
 use Rattle.std.proofs.Common.{◌≡◌, ◌++◌, take}
 use Rattle.std.specs.List.{flat_map}
 use Rattle.fd_dump.specs.Dumped.{pages_with_bits}

@@ -1,3 +1,4 @@
+-- Page by page the order is kept, or the first that breaks it is found.
 use Rattle.std.proofs.Common.{◌≡◌, ◌+◌, ℕ, true, false, get_or, sym, refl, arith}
 use Rattle.std.proofs.lemmas.Bool.Decides.{nat_tests}
 use Rattle.fd_image.specs.Image.{is_page_at_or_after, next_address}
@@ -8,7 +9,10 @@ use Rattle.fd_image.proofs.rules.bad_wanted_page.Goals.{then-page-ne0-via-then-p
 pub returns-then-page-ne0 : goal.returns-then-page-ne0
 returns-then-page-ne0 c =
     let page : ℕ = get_or c.args.wanted.now c.loop-i.i 0 in
-    let fails : is_page_at_or_after (c.loop-i.least, page) ≡ false = elim c.then-page-ne0.branch [ then-page-ne0-via-then-page-ne0 w ↦ grind (arith, nat_tests) | then-page-ne0-via-else-page-ne0+then-from-least w ↦ grind (arith, nat_tests) ] in
+    let fails : is_page_at_or_after (c.loop-i.least, page) ≡ false = elim c.then-page-ne0.branch [
+      | then-page-ne0-via-then-page-ne0 w ↦ grind (arith, nat_tests)
+      | then-page-ne0-via-else-page-ne0+then-from-least w ↦ grind (arith, nat_tests)
+    ] in
     sym (InOrder-fails is_page_at_or_after next_address c.args.wanted.now c.loop-i.i c.loop-i.least page 0 c.loop-i.invariant (omega arith) refl fails)
 
 pub loop-i-preserved : goal.loop-i-preserved

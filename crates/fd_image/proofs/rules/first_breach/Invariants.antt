@@ -1,3 +1,4 @@
+-- The rules so far have no place.
 use Rattle.std.proofs.Common.{◌≡◌, ◌+◌, drop}
 use Rattle.fd_image.specs.Image.{first_breach}
 use Rattle.fd_image.proofs.rules.first_breach.Given as goal

@@ -1,3 +1,4 @@
+-- What is left of the limit is what the segments so far left of it.
 use Rattle.std.proofs.Common.{◌≡◌, ◌+◌, length, sum_by, take}
 use Rattle.fd_image.proofs.rules.has_bytes_within.Given as goal
 

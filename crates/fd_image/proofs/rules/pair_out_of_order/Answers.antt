@@ -1,3 +1,4 @@
+-- Pair by pair the order is kept, or the first that breaks it is found.
 use Rattle.std.proofs.Common.{ℕ, get_or, sym, refl, arith}
 use Rattle.std.proofs.lemmas.Bool.Decides.{nat_tests}
 use Rattle.fd_image.specs.Image.{pair_begins_at_or_after, pair_end}

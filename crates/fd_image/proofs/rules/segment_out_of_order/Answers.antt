@@ -1,3 +1,4 @@
+-- Segment by segment the order is kept, or the first that breaks it is found.
 use Rattle.std.proofs.Common.{sym, arith}
 use Rattle.std.proofs.lemmas.Bool.Decides.{nat_tests}
 use Rattle.fd_image.specs.Image.{begins_at_or_after, end_of}

@@ -1,3 +1,4 @@
+-- The pairs so far are within their type.
 use Rattle.std.proofs.Common.{ℕ, ◌<◌, ◌^◌, get_or}
 use Rattle.fd_image.proofs.typed.pairs_are_typed.Given as goal
 

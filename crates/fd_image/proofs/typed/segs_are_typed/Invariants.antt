@@ -1,3 +1,4 @@
+-- The segments so far are within their types.
 use Rattle.std.proofs.Common.{ℕ, ◌<◌, ◌^◌, get_or}
 use Rattle.fd_image.specs.Image.{AreBytes}
 use Rattle.fd_image.specs.declared.parts.Seg.{Seg}

@@ -1,3 +1,4 @@
+-- What is found in the rest is found in all.
 use Rattle.std.proofs.Common.{◌≡◌, drop}
 use Rattle.fd_imgfile.specs.Reading.{first_broken}
 use Rattle.fd_imgfile.proofs.front.first_broken.Given as goal

@@ -1,6 +1,6 @@
+-- The file spells the image of the parts that were read.
 use Rattle.std.proofs.Common.{◌≡◌, ℕ, ◌+◌, List, Option, length, refl, ap, ◌∙◌, arith}
 use Rattle.std.specs.List.{flat_map, sum_by}
-use Rattle.fd_image.specs.Image.{IsTyped}
 use Rattle.fd_image.specs.declared.parts.Seg.{Seg}
 use Rattle.fd_image.specs.declared.parts.Texts.{Texts}
 use Rattle.fd_site.specs.Contents.{file_of}
@@ -8,7 +8,7 @@ use Rattle.fd_imgfile.specs.Front.{second, tables_length, texts_length}
 use Rattle.fd_imgfile.specs.Spelling.{FitsFields, avail_bytes, seg_bytes}
 use Rattle.fd_imgfile.specs.declared.front.Front.{Front}
 use Rattle.fd_imgfile.specs.declared.tables.Tables.{Tables}
-use Rattle.fd_imgfile.proofs.Images.{image_fits, image_of, image_read, image_typed}
+use Rattle.fd_imgfile.proofs.Images.{image_fits, image_of, image_read}
 use Rattle.fd_imgfile.proofs.Segments.{read_to}
 use Rattle.fd_imgfile.proofs.read.read_parts.Goals as goal
 
@@ -21,13 +21,13 @@ returns-clause-parts g c =
     let i : ℕ = 112 + tables_length h in
     let j : ℕ = i + texts_length h in
     let pairs : c.as_slice.result.now ≡ t.segs.items = c.as_slice.ensures.value in
-    let told-2 : g.S.Site.told c.read_front.new.site ≡ g.S.Site.told c.args.site.now = c.in_ok-front.ensures.same in
-    let told-3 : g.S.Site.told c.read_tables.new.site ≡ g.S.Site.told c.args.site.now = c.in_ok-tables.ensures.same ∙ told-2 in
-    let told-4 : g.S.Site.told c.read_texts.new.site ≡ g.S.Site.told c.args.site.now = c.in_ok-texts.ensures.same ∙ told-3 in
-    let typed : IsTyped (image_of h t texts segs) = image_typed h t texts segs c.in_ok-front.ensures.numbers c.in_ok-segs.ensures.typed c.in_ok-tables.ensures.avail c.in_ok-tables.ensures.wanted c.in_ok-texts.ensures.typed c.in_ok-texts.ensures.lengths in
+    let told-2 : (g.S.Site.seen c.read_front.new.site).told ≡ (g.S.Site.seen c.args.site.now).told = c.in_ok-front.ensures.untouched.told in
+    let told-3 : (g.S.Site.seen c.read_tables.new.site).told ≡ (g.S.Site.seen c.args.site.now).told = c.in_ok-tables.ensures.untouched.told ∙ told-2 in
+    let told-4 : (g.S.Site.seen c.read_texts.new.site).told ≡ (g.S.Site.seen c.args.site.now).told = c.in_ok-texts.ensures.untouched.told ∙ told-3 in
     let whole : j + sum_by second t.segs.items ≡ c.args.len = c.in_ok-tables.ensures.whole in
     let count : length segs ≡ h.segs = c.in_ok-segs.ensures.places ∙ (ap length pairs ∙ c.in_ok-tables.ensures.counts.segs) in
-    let fits : FitsFields (image_of h t texts segs) = image_fits h t texts segs c.in_ok-front.ensures.limits count c.in_ok-tables.ensures.counts c.in_ok-texts.ensures.lengths c.in_ok-segs.ensures.sizes in
+    let fits : FitsFields (image_of h t texts segs) =
+    image_fits h t texts segs c.in_ok-front.ensures.limits count c.in_ok-tables.ensures.counts c.in_ok-texts.ensures.lengths c.in_ok-segs.ensures.sizes in
     let table : flat_map seg_bytes segs ≡ flat_map avail_bytes t.segs.items = c.in_ok-segs.ensures.table ∙ ap (flat_map avail_bytes) pairs in
     let end : c.tables_length-texts_at.result ≡ tables_length h = c.tables_length-texts_at.ensures in
     let more : c.texts_length.result ≡ texts_length h = c.texts_length.ensures in
@@ -35,7 +35,7 @@ returns-clause-parts g c =
     λ w is.
     let file : Option (List ℕ) = file_of w c.args.name.now in
     rw (c.new.ensures, c.new-2.ensures, c.new-3.ensures)
-    (image_read file h t texts segs c.args.len typed fits (omega (arith, whole)) count c.in_ok-tables.ensures.counts c.in_ok-texts.ensures.lengths table (c.requires.length w is)
+    (image_read file h t texts segs c.args.len fits (omega (arith, whole)) count c.in_ok-tables.ensures.counts c.in_ok-texts.ensures.lengths table (c.requires.length w is)
     (c.in_ok-front.ensures.front w is)
     (c.in_ok-tables.ensures.no_fault w (told-2 ∙ is))
     (c.in_ok-tables.ensures.spelling w (told-2 ∙ is))

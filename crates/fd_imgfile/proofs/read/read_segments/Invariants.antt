@@ -1,6 +1,7 @@
-use Rattle.std.proofs.Common.{◌≡◌, ◌+◌, ◌<◌, ◌≤◌, ◌^◌, All, length, map, slice_range, take}
+-- The segments so far spell the table and the memory so far.
+use Rattle.std.proofs.Common.{◌≡◌, ◌+◌, ◌<◌, ◌^◌, All, length, map, slice_range, take}
 use Rattle.std.specs.List.{concat, flat_map, sum_by}
-use Rattle.fd_image.specs.Image.{AreBytes}
+use Rattle.fd_site.specs.Seen.{Untouched}
 use Rattle.fd_imgfile.specs.File.{OfFile}
 use Rattle.fd_imgfile.specs.Front.{second}
 use Rattle.fd_imgfile.specs.Spelling.{avail_bytes, seg_bytes}
@@ -11,11 +12,7 @@ invariant-loop-pair g l = record {
   next : l.next ≡ l.at + sum_by second (take l.pair-index l.table);
   places : length l.segs.items ≡ l.pair-index;
   table_so_far : flat_map seg_bytes l.segs.items ≡ flat_map avail_bytes (take l.pair-index l.table);
-  memory : OfFile (g.S.Site.told l.fn.site) l.name (λ file. concat (map (λ seg. seg.bytes) l.segs.items) ≡ slice_range file l.at l.next);
-  typed : All (λ seg. (seg.start < 2 ^ 64) × AreBytes seg.bytes) l.segs.items;
+  memory : OfFile (g.S.Site.seen l.fn.site).told l.name (λ file. concat (map (λ seg. seg.bytes) l.segs.items) ≡ slice_range file l.at l.next);
   sizes : All (λ seg. length seg.bytes < 2 ^ 64) l.segs.items;
-  same : g.S.Site.told l.site ≡ g.S.Site.told l.fn.site;
-  size : g.S.Site.part_size l.site ≡ g.S.Site.part_size l.fn.site;
-  block : g.S.Site.block_size l.site ≡ g.S.Site.block_size l.fn.site;
-  count : g.S.Site.faults l.fn.site ≤ g.S.Site.faults l.site;
+  untouched : Untouched (g.S.Site.seen l.fn.site) (g.S.Site.seen l.site);
 }

@@ -1,3 +1,4 @@
+-- Four texts are read, one after another.
 use Rattle.std.proofs.Common.{◌≡◌, ℕ, ◌+◌, List, Option, ◌∙◌, arith}
 use Rattle.fd_site.specs.Contents.{file_of}
 use Rattle.fd_imgfile.specs.declared.front.Front.{Front}
@@ -12,9 +13,9 @@ returns-clause-texts g c =
     let j : ℕ = i + h.version in
     let k : ℕ = j + h.panic in
     let end : ℕ = a + (h.host + h.version + h.panic + h.msgbuf) in
-    let told-2 : g.S.Site.told c.read_bytes.new.site ≡ g.S.Site.told c.args.site.now = c.in_ok-read_bytes.ensures.same in
-    let told-3 : g.S.Site.told c.read_bytes-2.new.site ≡ g.S.Site.told c.args.site.now = c.in_ok-read_bytes-2.ensures.same ∙ told-2 in
-    let told-4 : g.S.Site.told c.read_bytes-3.new.site ≡ g.S.Site.told c.args.site.now = c.in_ok-read_bytes-3.ensures.same ∙ told-3 in
+    let told-2 : (g.S.Site.seen c.read_bytes.new.site).told ≡ (g.S.Site.seen c.args.site.now).told = c.in_ok-read_bytes.ensures.untouched.told in
+    let told-3 : (g.S.Site.seen c.read_bytes-2.new.site).told ≡ (g.S.Site.seen c.args.site.now).told = c.in_ok-read_bytes-2.ensures.untouched.told ∙ told-2 in
+    let told-4 : (g.S.Site.seen c.read_bytes-3.new.site).told ≡ (g.S.Site.seen c.args.site.now).told = c.in_ok-read_bytes-3.ensures.untouched.told ∙ told-3 in
     λ w is.
     let file : Option (List ℕ) = file_of w c.args.name.now in
     texts_read file _ _ _ _ a i j k end (omega arith) (omega arith) (omega arith) (omega arith)

@@ -1,7 +1,7 @@
-use Rattle.std.proofs.Common.{◌≡◌, ℕ, ◌<◌, ◌^◌, List, [], ◌∷◌, ◌++◌, ap, ◌∙◌, arith}
+-- One more number is read.
+use Rattle.std.proofs.Common.{◌≡◌, ℕ, List, [], ◌∷◌, ◌++◌, ap, ◌∙◌, arith}
 use Rattle.std.specs.List.{flat_map}
 use Rattle.std.proofs.lemmas.List.{length_push}
-use Rattle.std.proofs.lemmas.List.Elements.{All-push}
 use Rattle.fd_imgfile.specs.Spelling.{u64}
 use Rattle.fd_imgfile.proofs.Pairs.{number_more}
 use Rattle.fd_imgfile.proofs.tables.read_numbers.Goals as goal
@@ -14,5 +14,4 @@ loop-i-preserved c =
     record {
       count = rw pushed (omega (arith, length_push numbers n, c.loop-i.invariant.count));
       spelling = ap (flat_map u64) pushed ∙ number_more c.args.bytes.now numbers n c.loop-i.i c.loop-i.invariant.spelling c.get_u64_le.ensures.spelling;
-      typed = rw pushed (All-push (λ n. n < 2 ^ 64) numbers n c.loop-i.invariant.typed c.get_u64_le.type_inv);
     }

@@ -1,7 +1,7 @@
-use Rattle.std.proofs.Common.{◌≡◌, ℕ, ◌<◌, ◌^◌, List, [], ◌∷◌, ◌++◌, map, ap, ◌∙◌, arith}
+-- One more pair is read.
+use Rattle.std.proofs.Common.{◌≡◌, ℕ, List, [], ◌∷◌, ◌++◌, map, ap, ◌∙◌, arith}
 use Rattle.std.specs.List.{flat_map}
 use Rattle.std.proofs.lemmas.List.{length_push}
-use Rattle.std.proofs.lemmas.List.Elements.{All-push}
 use Rattle.fd_imgfile.specs.Front.{second}
 use Rattle.fd_imgfile.specs.Spelling.{avail_bytes}
 use Rattle.fd_imgfile.proofs.Pairs.{pair_more, second_more}
@@ -15,7 +15,7 @@ loop-i-preserved c =
     let pushed : c.push.new.self.items ≡ pairs ++ (a, b) ∷ [] = c.in_ok-push.ensures.items in
     record {
       count = rw pushed (omega (arith, length_push pairs (a, b), c.loop-i.invariant.count));
-      spelling = ap (flat_map avail_bytes) pushed ∙ pair_more c.args.bytes.now pairs a b c.loop-i.i c.loop-i.invariant.spelling c.get_u64_le-first.ensures.spelling c.get_u64_le-second.ensures.spelling;
+      spelling =
+          ap (flat_map avail_bytes) pushed ∙ pair_more c.args.bytes.now pairs a b c.loop-i.i c.loop-i.invariant.spelling c.get_u64_le-first.ensures.spelling c.get_u64_le-second.ensures.spelling;
       seconds = ap (map second) pushed ∙ second_more c.args.bytes.now pairs a b c.loop-i.i c.loop-i.invariant.seconds c.get_u64_le-second.ensures.value;
-      typed = rw pushed (All-push (λ p. (p.0 < 2 ^ 64) × (p.1 < 2 ^ 64)) pairs (a, b) c.loop-i.invariant.typed (c.get_u64_le-first.type_inv, c.get_u64_le-second.type_inv));
     }

@@ -20,7 +20,8 @@ pub returns-in-Some-difference-clause-verdict : goal.returns-in-Some-difference-
 returns-in-Some-difference-clause-verdict g c told is =
     let read = trailing_read _ _ _ _ (g.met.S.Site.told_size _ told is) c.size-size.ensures c.from-block_bytes.ensures (c.in_ok-read_part.ensures.bytes told is) c.take_sector-seen.ensures in
     let h = c.in-Ok.header in
-    let leading = c.in_ok-read_part-2.ensures.bytes told (c.in_ok-read_part.ensures.untouched.told ∙ is) ∙ ap (λ n. sector_at (part_of told) (leading_place c.size-size.result n h.dumpextent)) c.from-block_bytes.ensures in
+    let leading = c.in_ok-read_part-2.ensures.bytes told (c.in_ok-read_part.ensures.untouched.told ∙ is)
+    ∙ ap (λ n. sector_at (part_of told) (leading_place c.size-size.result n h.dumpextent)) c.from-block_bytes.ensures in
     ap (by_leading h (dump_place c.size-size.result c.block-block.result h.dumpextent) c.read_part.new.out) c.in-Some-difference.ensures.place
     ∙ judged_by_leading read h c.read_part-2.new.out (sym c.in-Ok.ensures) (sym c.in-None.ensures.first) leading
     ∙ ap (λ b. judged (part_of told) b c.args.force) c.block-block.ensures
@@ -29,7 +30,8 @@ pub returns-in-None-difference-clause-verdict : goal.returns-in-None-difference-
 returns-in-None-difference-clause-verdict g c told is =
     let read = trailing_read _ _ _ _ (g.met.S.Site.told_size _ told is) c.size-size.ensures c.from-block_bytes.ensures (c.in_ok-read_part.ensures.bytes told is) c.take_sector-seen.ensures in
     let h = c.in-Ok.header in
-    let leading = c.in_ok-read_part-2.ensures.bytes told (c.in_ok-read_part.ensures.untouched.told ∙ is) ∙ ap (λ n. sector_at (part_of told) (leading_place c.size-size.result n h.dumpextent)) c.from-block_bytes.ensures in
+    let leading = c.in_ok-read_part-2.ensures.bytes told (c.in_ok-read_part.ensures.untouched.told ∙ is)
+    ∙ ap (λ n. sector_at (part_of told) (leading_place c.size-size.result n h.dumpextent)) c.from-block_bytes.ensures in
     ap (by_leading h (dump_place c.size-size.result c.from-block_bytes.result h.dumpextent) c.read_part.new.out) c.in-None-difference.ensures.place
     ∙ ap (λ n. by_leading h (dump_place c.size-size.result n h.dumpextent) c.read_part.new.out (first_difference c.take_sector-seen.result c.read_part-2.new.out)) c.from-block_bytes.ensures
     ∙ judged_by_leading read h c.read_part-2.new.out (sym c.in-Ok.ensures) (sym c.in-None.ensures.first) leading

@@ -49,7 +49,9 @@ returns-in-None-3-clause-stopped g c =
     let placed = is_placed (g.P.Pieces.to_come c.args.pieces.now) c.args.header.now seen.size seen.block _ _ _ _ c.size.ensures
     (c.from-block.ensures ∙ c.block.ensures) c.requires.dumpextent c.padded-buffer.ensures c.requires.partition in
     stops_in_trailing _ _ _ _ _ _ _ _ placed _ _ (rw c.in-Some.is at c.in_ok-rest.ensures.whole) _
-    (rw c.in-Some-2.is at c.in_ok-rest-2.ensures.whole) _ c.in-Some-2.rest c.args.left (omega (arith, rw c.in-Some.is at c.in_ok-rest.ensures.rest, rw c.in-Some-2.is at c.in_ok-rest-2.ensures.rest)) (rw c.in-None-3.is at c.in_ok-write_bytes.ensures.stopped)
+    (rw c.in-Some-2.is at c.in_ok-rest-2.ensures.whole) _ c.in-Some-2.rest c.args.left
+    (omega (arith, rw c.in-Some.is at c.in_ok-rest.ensures.rest, rw c.in-Some-2.is at c.in_ok-rest-2.ensures.rest))
+    (rw c.in-None-3.is at c.in_ok-write_bytes.ensures.stopped)
 
 pub returns-in-Some-3-clause-whole : goal.returns-in-Some-3-clause-whole
 returns-in-Some-3-clause-whole g c =

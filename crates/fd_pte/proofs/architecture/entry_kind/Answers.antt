@@ -1,3 +1,4 @@
+-- What RISC-V's entries stand for is placed.
 use Rattle.std.proofs.Common.{subst, sym}
 use Rattle.fd_pte.specs.Entry.{IsPlaced}
 use Rattle.fd_pte.specs.RiscvLaws.{riscv_placed}

@@ -1,3 +1,4 @@
+-- The pairs end at the first whose end is 0, or go on.
 use Rattle.std.proofs.Common.{◌≡◌, ◌+◌, ◌/◌, ◌≢◌, ◌∷◌, [], length, append_assoc, rules}
 use Rattle.std.proofs.lemmas.List.{append-nil}
 use Rattle.fd_vmcore.specs.Ranges.{pair_at}

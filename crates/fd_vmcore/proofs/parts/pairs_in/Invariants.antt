@@ -1,3 +1,4 @@
+-- The pairs so far and those of the rest are all pairs.
 use Rattle.std.proofs.Common.{◌≡◌, ◌++◌, ◌/◌, length}
 use Rattle.fd_vmcore.specs.Parts.{EndBelow}
 use Rattle.fd_vmcore.specs.Ranges.{pairs_in}

@@ -1,3 +1,4 @@
+-- The pages that have a bit are below 2^52.
 use Rattle.std.proofs.Common.{ℕ, ◌*◌, List, sym, subst, arith}
 use Rattle.fd_vmcore.specs.Kept.{AreBelow}
 use Rattle.fd_vmcore.specs.Parts.{EndBelow}
@@ -10,4 +11,5 @@ returns-then-header-eq0-clause-below g c =
 
 pub returns-in-Ok-clause-below : goal.returns-in-Ok-clause-below
 returns-in-Ok-clause-below g c =
-    subst (λ (l : List ℕ). AreBelow l) (sym c.in-Ok.ensures.pages) (pages_below c.as_slice-2.result.now (subst (λ (l : List (ℕ × ℕ)). EndBelow l) (sym c.as_slice-2.ensures.value) c.in_ok-pairs.ensures.below))
+    subst (λ (l : List ℕ). AreBelow l) (sym c.in-Ok.ensures.pages)
+    (pages_below c.as_slice-2.result.now (subst (λ (l : List (ℕ × ℕ)). EndBelow l) (sym c.as_slice-2.ensures.value) c.in_ok-pairs.ensures.below))

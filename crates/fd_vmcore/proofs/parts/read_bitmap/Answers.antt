@@ -1,3 +1,4 @@
+-- There are eight bits a byte.
 use Rattle.std.proofs.Common.{ℕ, arith, ap, length, Bool, List}
 use Rattle.fd_bitmap.proofs.ByteBits.{length-bits_of}
 use Rattle.fd_vmcore.proofs.parts.read_bitmap.Goals as goal

@@ -1,3 +1,4 @@
+-- The law is a lemma of SameReads.
 use Rattle.fd_way.proofs.SameReads.{same_read}
 use Rattle.fd_way.proofs.laws.each_read_of_a_minidump_is_the_images.Goals as goal
 

@@ -17,4 +17,5 @@ invariant_of-self-2 c =
 pub returns-clause-part : goal.returns-clause-part
 returns-clause-part c =
     let noted : entries c.push.new.self.items ≡ entries c.self.inside.journal.items ++ Sync c.args.name.now ∷ [] = grind (arith, common_steps) in
-    ap (λ l. part_after c.self.inside.base_part.items l) noted ∙ part_after-append c.self.inside.base_part.items (entries c.self.inside.journal.items) (Sync c.args.name.now ∷ []) ∙ ap part_now c.self.view_is
+    ap (λ l. part_after c.self.inside.base_part.items l) noted ∙ part_after-append c.self.inside.base_part.items (entries c.self.inside.journal.items) (Sync c.args.name.now ∷ [])
+    ∙ ap part_now c.self.view_is

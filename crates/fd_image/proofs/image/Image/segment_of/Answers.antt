@@ -1,5 +1,5 @@
 -- The segments of a valid image are in order, and the one that is found has the address.
-use Rattle.std.proofs.Common.{◌≡◌, ◌∙◌, ap, find, None, subst, sym}
+use Rattle.std.proofs.Common.{◌∙◌, ap, find}
 use Rattle.fd_image.specs.Image.{segment_out_of_order}
 use Rattle.fd_image.specs.Physical.{has_address}
 use Rattle.fd_image.proofs.Valid.{rules_kept, segment_lent-has, segment_lent-whole}

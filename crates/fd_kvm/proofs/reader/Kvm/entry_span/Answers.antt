@@ -1,3 +1,4 @@
+-- An entry that names a table goes on by that.
 use Rattle.std.proofs.Common.{sym, subst}
 use Rattle.fd_pte.specs.declared.entry.Kind.{Kind}
 use Rattle.fd_kvm.specs.Place.{by_entry}

@@ -1,3 +1,4 @@
+-- The eight bytes of an entry are the number that stands there.
 use Rattle.std.proofs.Common.{◌+◌, ◌∙◌, rules}
 use Rattle.fd_kvm.proofs.Standing.{entry_read, read_part}
 use Rattle.fd_kvm.proofs.reader.Kvm.read_entry.Goals as goal

@@ -1,3 +1,4 @@
+-- A page table's entry lies in the file, and maps the rest of its page.
 use Rattle.std.proofs.Common.{◌≡◌, ◌+◌, ◌/◌, ◌%◌, Ok, Some, sym, ap, ◌∙◌, arith}
 use Rattle.fd_site.specs.Contents.{file_of}
 use Rattle.fd_pte.specs.Architecture.{kind_of}

@@ -1,3 +1,4 @@
+-- No page has an address of 2^64 or more.
 use Rattle.std.proofs.Common.{◌^◌, ◌≤◌, inl, inr, sym, subst}
 use Rattle.std.proofs.lemmas.Bool.{cases_lt}
 use Rattle.fd_vmcore.specs.Kept.{AreBelow}

@@ -32,3 +32,4 @@ returns-in-None-clause-leaves g c =
     c.in-None.ensures.leaf
     ∙ goes_on (leaves_in t) (leaves_in-none t) (at + part.bytes) (left - part.bytes) part.rest.at part.rest.left
     (omega (arith, c.requires.rest.within)) known.at known.left
+    ∙ c.past_absent.ensures.leaves

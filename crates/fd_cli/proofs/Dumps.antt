@@ -1,0 +1,134 @@
+-- The work of `dump` and of `read`, by their functions' outcomes.
+use Rattle.std.proofs.Common.{◌≡◌, inl, inr, ℕ, ◌<◌, true, false, IsErrOf, List, [], length, Option, Some, None, Result, Ok, Err, refl, sym, ◌∙◌, ap, subst, arith}
+use Rattle.std.proofs.lemmas.Bool.Decides.{nat_tests}
+use Rattle.fd_site.specs.Contents.{Contents, Told, file_of}
+use Rattle.fd_site.specs.Seen.{Seen, Untouched}
+use Rattle.fd_site.proofs.Told.{with_entries-nil}
+use Rattle.fd_image.specs.Image.{MachineImage}
+use Rattle.fd_imgfile.specs.Reading.{IsReading}
+use Rattle.fd_imgfile.specs.declared.fault.ImageFault.{ImageFault}
+use Rattle.fd_dump.specs.Minidump.{minidump_of}
+use Rattle.fd_part.specs.Outcome.{OnNoRoom}
+use Rattle.fd_part.specs.Partition.{has_room, is_good, need_of}
+use Rattle.fd_part.specs.declared.outcome.NoRoom.{NoRoom}
+use Rattle.fd_part.specs.declared.outcome.PartFault.{PartFault}
+use Rattle.fd_part.specs.declared.outcome.PartFault.TheVariants as part
+use Rattle.fd_part.specs.declared.outcome.Wrote.{Wrote}
+use Rattle.fd_cli.specs.Reply.{IsReplyOf, SiteReplies, WorksOnSite}
+use Rattle.fd_cli.specs.Rows.Dump.{DumpsNamed, IsNamed, RefusesImage, dump_row, image_dump_row, no_room}
+use Rattle.fd_cli.specs.Rows.Read.{IsReadAnswer, read_row}
+use Rattle.fd_cli.specs.declared.answer.Answer.{Answer}
+use Rattle.fd_cli.specs.declared.answer.Answer.TheVariants.{Refused}
+use Rattle.fd_cli.specs.declared.refusal.Refusal.TheVariants as refusal
+use Rattle.fd_cli.specs.declared.reply.Reply.{Reply}
+use Rattle.fd_cli.specs.declared.reply.Trouble.{Trouble}
+use Rattle.fd_cli.specs.declared.reply.Trouble.TheVariants.{Fault, NoMemory}
+use Rattle.fd_cli.proofs.Good.{on_false, over_bad, over_good}
+
+-- what a writer's answer says of no room
+pub on_no_room : (fault : PartFault) (room : NoRoom) (P : Type 0) → fault ≡ part.NoRoom room → OnNoRoom (Err fault) P → P
+on_no_room fault room P is holds = subst (λ x. OnNoRoom (Err x) P) is holds
+
+room_of : (other : NoRoom) → Result Wrote PartFault → NoRoom
+room_of other (Ok wrote) = other
+room_of other (Err (part.NoRoom room)) = room
+room_of other (Err part.SiteFault) = other
+
+-- the partition has no room for the dump
+pub refused_for_room : (old new : Seen) (m : MachineImage) (body : List ℕ) (fault : PartFault) (room : NoRoom) (reply : Reply) → fault ≡ part.NoRoom room
+    → body ≡ minidump_of m → old.size < need_of old.block (length body)
+    → (old.size < need_of old.block (length body)
+    → IsErrOf {T = Wrote} {E = PartFault} (Err fault) (part.NoRoom (record { need = need_of old.block (length body); have = old.size })))
+    → new ≡ old → IsReplyOf (Refused (refusal.NoRoom room)) reply → SiteReplies (image_dump_row m) old new reply
+unfolding room_of
+refused_for_room old new m body fault room reply fault_is body_is short numbers same is =
+    let is_short : old.size < need_of old.block (length (minidump_of m)) = subst (λ b. old.size < need_of old.block (length b)) body_is short in
+    let short_is : has_room old.size old.block (length (minidump_of m)) ≡ false = grind (arith, nat_tests, is_short) in
+    let room_is : room ≡ record { need = need_of old.block (length (minidump_of m)); have = old.size } =
+    ap (λ x. room_of room (Err x)) (sym fault_is) ∙ ap (room_of room) (numbers short) ∙ ap (λ b. record { need = need_of old.block (length b); have = old.size }) body_is in
+    record {
+      answer = Refused (no_room old m);
+      entries = [];
+      does = on_false _ _ _ short_is refl;
+      told = ap (λ s. s.told) same ∙ with_entries-nil old.told;
+      is = subst (λ r. IsReplyOf (Refused (refusal.NoRoom r)) reply) room_is is;
+    }
+
+-- the partition isn't good
+pub refused_partition : (found : Seen) (name : List ℕ) (size block : ℕ) (reply : Reply) → size ≡ found.size → block ≡ found.block
+    → is_good found.size found.block ≡ false → IsReplyOf (Refused (refusal.Partition (record { size = size; block = block }))) reply
+    → SiteReplies (dump_row name) found found reply
+refused_partition found name size block reply same_size same_block bad is = record {
+  answer = Refused (refusal.Partition (record { size = found.size; block = found.block }));
+  entries = [];
+  does = over_bad found (DumpsNamed name found) _ bad refl;
+  told = with_entries-nil found.told;
+  is = subst (λ a. IsReplyOf a reply) (λ i. Refused (refusal.Partition (record { size = same_size i; block = same_block i }))) is;
+}
+
+-- the image wasn't read
+pub image_refused : (old new : Seen) (name : List ℕ) (fault : ImageFault) (result : Result Reply Trouble) → is_good old.size old.block ≡ true
+    → Told old.told (λ c. IsReading (file_of c name) (Err fault)) → RefusesImage fault result → new.told ≡ old.told
+    → WorksOnSite (dump_row name) old new result
+image_refused old new name fault (Ok reply) good reading is same = record {
+  answer = is.0;
+  entries = [];
+  does = over_good old (DumpsNamed name old) _ good (Err fault, reading, is.1 old);
+  told = same ∙ with_entries-nil old.told;
+  is = is.2;
+}
+image_refused old new name fault (Err Fault) good reading is same =
+    record { entries = []; leaves = inl refl; told = same ∙ with_entries-nil old.told }
+image_refused old new name fault (Err NoMemory) good reading is same =
+    record { entries = []; starves = refl; told = same ∙ with_entries-nil old.told }
+
+-- a file that spells an image names it
+named : (c : Contents) (name : List ℕ) (m : MachineImage) (file : Option (List ℕ)) → file_of c name ≡ file → IsReading file (Ok m) → IsNamed c name m
+named c name m None is reading = absurd reading
+named c name m (Some f) is reading = record { file = f; there = is; spells = reading }
+
+pub told_named : (found : Seen) (name : List ℕ) (m : MachineImage) → Told found.told (λ c. IsReading (file_of c name) (Ok m))
+    → Told found.told (λ c. IsNamed c name m)
+told_named found name m reading c told = named c name m (file_of c name) refl (reading c told)
+
+-- an image that was read, over a site that is seen as before but for its faults
+same_row : (m : MachineImage) (old mid new : Seen) (result : Result Reply Trouble) → Untouched old mid → WorksOnSite (image_dump_row m) mid new result
+    → WorksOnSite (image_dump_row m) (record mid { told = old.told; size = old.size; block = old.block }) new result
+same_row m old mid new result same works =
+    subst (λ s. WorksOnSite (image_dump_row m) s new result)
+    (λ i. record mid { told = same.told i; size = same.size i; block = same.block i }) works
+
+-- and its dump was written or not
+pub image_dumped : (old mid new : Seen) (name : List ℕ) (m : MachineImage) (result : Result Reply Trouble) → is_good old.size old.block ≡ true
+    → Told old.told (λ c. IsReading (file_of c name) (Ok m)) → Untouched old mid → WorksOnSite (image_dump_row m) mid new result
+    → WorksOnSite (dump_row name) old new result
+image_dumped old mid new name m (Ok reply) good reading same works =
+    let here = same_row m old mid new (Ok reply) same works in
+    record {
+      answer = here.answer;
+      entries = here.entries;
+      does = over_good old (DumpsNamed name old) _ good (Ok m, reading, here.does);
+      told = here.told;
+      is = here.is;
+    }
+image_dumped old mid new name m (Err Fault) good reading same works =
+    let here = same_row m old mid new (Err Fault) same works in
+    record {
+      entries = here.entries;
+      leaves = elim here.leaves [ inl none ↦ inl none | inr begun ↦ inr (m, told_named old name m reading, begun) ];
+      told = here.told;
+    }
+image_dumped old mid new name m (Err NoMemory) good reading same works =
+    let here = same_row m old mid new (Err NoMemory) same works in
+    record { entries = here.entries; starves = here.starves; told = here.told }
+
+-- the reply to a read
+pub read_replied : (old new : Seen) (name : List ℕ) (va count : ℕ) (answer : Answer) (reply : Reply) → IsReadAnswer old.told name va count answer
+    → new.told ≡ old.told → IsReplyOf answer reply → SiteReplies (read_row name va count) old new reply
+read_replied old new name va count answer reply answers same is = record {
+  answer = answer;
+  entries = [];
+  does = (answers, refl);
+  told = same ∙ with_entries-nil old.told;
+  is = is;
+}

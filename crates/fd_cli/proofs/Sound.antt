@@ -1,0 +1,73 @@
+-- What holds of every command's row.
+use Rattle.std.proofs.Common.{◌≡◌, ◌⊎◌, inl, inr, ℕ, List, [], length, Option, Some, None, refl, ◌∙◌, ap, subst}
+use Rattle.fd_site.specs.Seen.{Seen}
+use Rattle.fd_dump.specs.Header.{header_of}
+use Rattle.fd_dump.specs.Minidump.{minidump_of}
+use Rattle.fd_part.proofs.WholeDump.{IsBegunDump-whole}
+use Rattle.fd_cli.specs.Ending.{Ends, answer_status}
+use Rattle.fd_cli.specs.Laws.{IsSound, OnlyDoneOrFailedAdds}
+use Rattle.fd_cli.specs.Row.{Added, Grew, Outside, Work, nothing}
+use Rattle.fd_cli.specs.Rows.{row_of}
+use Rattle.fd_cli.specs.Rows.Dump.{HasBegun, MayHaveBegun, dump_row}
+use Rattle.fd_cli.specs.declared.command.Command.{Command}
+use Rattle.fd_cli.specs.declared.command.Command.TheVariants as command
+use Rattle.fd_cli.proofs.Outcomes.{IsWhole, judge_adds_nothing, refused_adds_nothing, refused_or_whole}
+
+-- a command may end without a word
+pub may_be_silent : (command : Option Command) (found : Seen) → (row_of command).Says found []
+may_be_silent None found = refl
+may_be_silent (Some command.Judge) found = refl
+may_be_silent (Some (command.Dump name)) found = refl
+may_be_silent (Some (command.Read name va count)) found = refl
+
+-- a whole dump was begun
+begun : (name : List ℕ) (found : Seen) (w : Work) (whole : IsWhole name found w) → HasBegun found.size found.block whole.image w.added
+begun name found w whole = record {
+  good = whole.good;
+  room = whole.room;
+  begun = IsBegunDump-whole (minidump_of whole.image) (header_of whole.image found.block) found.size found.block w.added.entries whole.dumps.is_dump;
+  alone = whole.dumps.alone;
+}
+
+dump_leaves : (name : List ℕ) (found : Seen) (w : Work) → (dump_row name).Does found w → MayHaveBegun name found w.added
+dump_leaves name found w does = elim (refused_or_whole name found w does) [
+  | inl refused ↦ inl (refused_adds_nothing refused.0 w refused.1)
+  | inr whole ↦ inr (whole.image, whole.named, begun name found w whole)
+]
+
+-- each row is sound
+pub sound : (command : Option Command) → IsSound (row_of command)
+sound None = record { whole = λ found w does. ap (λ x. x.added) does; starved = λ found added is. is; silent = λ found. refl }
+sound (Some command.Judge) = record { whole = judge_adds_nothing; starved = λ found added is. is; silent = λ found. refl }
+sound (Some (command.Dump name)) = record { whole = dump_leaves name; starved = λ found added is. inl is; silent = λ found. refl }
+sound (Some (command.Read name va count)) =
+    record { whole = λ found w does. ap (λ x. x.added) does.1; starved = λ found added is. is; silent = λ found. refl }
+
+-- a command whose work adds something ends with 0
+adds_with_zero : (command : Option Command) (found : Seen) (w : Work) → (row_of command).Does found w → (answer_status w.answer ≡ 0) ⊎ (w.added ≡ nothing)
+adds_with_zero None found w does = inr (ap (λ x. x.added) does)
+adds_with_zero (Some command.Judge) found w does = inr (judge_adds_nothing found w does)
+adds_with_zero (Some (command.Dump name)) found w does = elim (refused_or_whole name found w does) [
+  | inl refused ↦ inr (refused_adds_nothing refused.0 w refused.1)
+  | inr whole ↦ inl (ap answer_status whole.dumps.answer)
+]
+adds_with_zero (Some (command.Read name va count)) found w does = inr (ap (λ x. x.added) does.1)
+
+starves_with_nothing : (command : Option Command) (found : Seen) (added : Added) → (row_of command).Starves found added → added ≡ nothing
+starves_with_nothing None found added is = is
+starves_with_nothing (Some command.Judge) found added is = is
+starves_with_nothing (Some (command.Dump name)) found added is = is
+starves_with_nothing (Some (command.Read name va count)) found added is = is
+
+pub only_done_or_failed_adds : OnlyDoneOrFailedAdds
+only_done_or_failed_adds command old new status call = by_ending call.ends
+  where
+    by_ending : Ends (row_of command) old new status → (status ≡ 0) ⊎ ((status ≡ 74) ⊎ Grew old.reach new.reach nothing)
+    by_ending (inl done) = elim (adds_with_zero command old.reach.site done.work done.does) [
+      | inl zero ↦ inl (done.status_is ∙ zero)
+      | inr none ↦ inr (inr (subst (Grew old.reach new.reach) none done.grew))
+    ]
+    by_ending (inr (inl done)) = inr (inl done.status_is)
+    by_ending (inr (inr (inl done))) = inr (inl done.status_is)
+    by_ending (inr (inr (inr done))) =
+        inr (inr (subst (Grew old.reach new.reach) (starves_with_nothing command old.reach.site done.added done.starves) done.grew))

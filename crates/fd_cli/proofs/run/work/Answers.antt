@@ -1,0 +1,38 @@
+use Rattle.std.proofs.Common.{Some, refl, sym, ◌∙◌, ap}
+use Rattle.fd_cli.specs.Command.{command_of}
+use Rattle.fd_cli.specs.Rows.Dump.{dump_row}
+use Rattle.fd_cli.specs.Rows.Judge.{judge_row}
+use Rattle.fd_cli.specs.Rows.Read.{read_row}
+use Rattle.fd_cli.specs.declared.command.Command.{Command}
+use Rattle.fd_cli.proofs.Calls.{not_a_command, starved_at_once, worked_by, worked_on_site}
+use Rattle.fd_cli.proofs.run.work.Goals as goal
+
+pub returns-in_err-read_command : goal.returns-in_err-read_command
+returns-in_err-read_command g c = starved_at_once (command_of c.args.words.now) _ _ c.from_residual.ensures.1
+
+pub returns-in_err-reply-in-None : goal.returns-in_err-reply-in-None
+returns-in_err-reply-in-None g c = starved_at_once (command_of c.args.words.now) _ _ c.from_residual-in_err-reply-in-None.ensures.1
+
+pub returns-in_ok-reply-in-None : goal.returns-in_ok-reply-in-None
+returns-in_ok-reply-in-None g c =
+    worked_by _ _ _ _ _ (sym c.in_ok-read_command.ensures.value ∙ c.in-None.is)
+    (not_a_command _ c.in_ok-reply-in-None.reply c.in_ok-reply-in-None.ensures)
+
+pub returns-in-Some-Judge : goal.returns-in-Some-Judge
+returns-in-Some-Judge g c =
+    let done = c.judge_reply.ensures in
+    worked_by _ _ _ _ _ (sym c.in_ok-read_command.ensures.value ∙ c.in-Some-Judge.is ∙ ap (λ (x : Command). Some x) c.in-Some-Judge.field-0-is)
+    (worked_on_site judge_row _ _ _ _ _ done.works done.frame done.cause refl)
+
+pub returns-in-Some-Dump : goal.returns-in-Some-Dump
+returns-in-Some-Dump g c =
+    let done = c.dump_image.ensures in
+    worked_by _ _ _ _ _ (sym c.in_ok-read_command.ensures.value ∙ c.in-Some-Dump.is ∙ ap (λ (x : Command). Some x) c.in-Some-Dump.field-0-is)
+    (worked_on_site (dump_row c.in-Some-Dump.image) _ _ _ _ _ done.works done.frame done.cause refl)
+
+pub returns-in-Some-Read : goal.returns-in-Some-Read
+returns-in-Some-Read g c =
+    let r = c.in-Some-Read in
+    let done = c.read_reply.ensures in
+    worked_by _ _ _ _ _ (sym c.in_ok-read_command.ensures.value ∙ r.is ∙ ap (λ (x : Command). Some x) r.field-0-is)
+    (worked_on_site (read_row r.file r.address r.count) _ _ _ _ _ done.works done.frame done.cause refl)

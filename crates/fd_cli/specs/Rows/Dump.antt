@@ -1,0 +1,94 @@
+-- `dump IMAGE`: a machine image's dump is written.
+use Rattle.std.specs.Prelude.{◌≡◌, ◌⊎◌, ◌≤◌, IsTrue, IfOk, List, ℕ, length, Some, Result, Ok, Err}
+use Rattle.std.specs.Bool.{OnTrue, OnFalse}
+use Rattle.fd_site.specs.Contents.{Contents, Told, file_of}
+use Rattle.fd_site.specs.Seen.{Seen}
+use Rattle.fd_image.specs.Image.{MachineImage}
+use Rattle.fd_imgfile.specs.Reading.{IsReading, Spells}
+use Rattle.fd_imgfile.specs.declared.fault.ImageFault.{ImageFault}
+use Rattle.fd_imgfile.specs.declared.fault.ImageFault.TheVariants as image
+use Rattle.fd_dump.specs.Header.{header_of}
+use Rattle.fd_dump.specs.Minidump.{minidump_of}
+use Rattle.fd_part.specs.Dump.{IsBegunDump, IsDumpJournal}
+use Rattle.fd_part.specs.Partition.{has_room, is_good, need_of}
+use Rattle.fd_cli.specs.Reply.{IsReplyOf}
+use Rattle.fd_cli.specs.Row.{Added, Row, Work, nothing, only}
+use Rattle.fd_cli.specs.Rows.Common.{AddsNothing, OnGood, Refuses, SaysNothing, the_site}
+use Rattle.fd_cli.specs.declared.answer.Answer.{Answer}
+use Rattle.fd_cli.specs.declared.answer.Answer.TheVariants.{Dumped}
+use Rattle.fd_cli.specs.declared.reply.Reply.{Reply}
+use Rattle.fd_cli.specs.declared.reply.Trouble.{Trouble}
+use Rattle.fd_cli.specs.declared.refusal.Refusal.{Refusal}
+use Rattle.fd_cli.specs.declared.refusal.Refusal.TheVariants.{NoFile, NotImage, BadImage, NoRoom}
+
+-- the file of this name spells this image
+pub record IsNamed (c : Contents) (name : List ℕ) (m : MachineImage) : Type 0 where
+  pub file : List ℕ
+  pub there : file_of c name ≡ Some file
+  pub spells : Spells file m
+
+-- the whole dump of an image was written
+pub record Dumps (size block : ℕ) (m : MachineImage) (w : Work) : Type 0 where
+  pub answer : w.answer ≡ Dumped (length (minidump_of m))
+  pub is_dump : IsDumpJournal (minidump_of m) (header_of m block) size block w.added.entries
+  pub alone : w.added ≡ only w.added.entries
+
+-- a partition that needs more bytes than it has
+abbrev pub no_room : Seen → MachineImage → Refusal
+no_room found m = NoRoom (record { need = need_of found.block (length (minidump_of m)); have = found.size })
+
+-- by the room that the partition has for an image's dump
+abbrev pub DumpsIfRoom : Seen → MachineImage → Work → Type 0
+DumpsIfRoom found m w =
+    OnTrue (has_room found.size found.block (length (minidump_of m))) (Dumps found.size found.block m w)
+    × OnFalse (has_room found.size found.block (length (minidump_of m))) (Refuses (no_room found m) w)
+
+-- by what reading the image's file gives
+abbrev pub ByImage : Seen → Result MachineImage ImageFault → Work → Type 0
+ByImage found (Ok m) w = DumpsIfRoom found m w
+ByImage found (Err image.NoFile) w = Refuses NoFile w
+ByImage found (Err (image.NotImage place)) w = Refuses (NotImage place) w
+ByImage found (Err (image.BadImage bad)) w = Refuses (BadImage bad) w
+ByImage found (Err image.SiteFault) w = ⊥
+ByImage found (Err image.NoMemory) w = ⊥
+
+-- a dump of an image was begun on a good partition with room
+pub record HasBegun (size block : ℕ) (m : MachineImage) (added : Added) : Type 0 where
+  pub good : IsTrue (is_good size block)
+  pub room : need_of block (length (minidump_of m)) ≤ size
+  pub begun : IsBegunDump (minidump_of m) (header_of m block) size block added.entries
+  pub alone : added ≡ only added.entries
+
+-- the row of an image that was read
+abbrev pub image_dump_row : MachineImage → Row
+image_dump_row m = record {
+  Does = λ found w. DumpsIfRoom found m w;
+  Leaves = λ found added. (added ≡ nothing) ⊎ HasBegun found.size found.block m added;
+  Starves = AddsNothing;
+  Says = SaysNothing;
+  blames = the_site;
+}
+
+-- what is done over a good partition
+abbrev pub DumpsNamed : (name : List ℕ) → Seen → Work → Type 0
+DumpsNamed name found w =
+    (reading : Result MachineImage ImageFault) × Told found.told (λ c. IsReading (file_of c name) reading) × ByImage found reading w
+
+-- nothing was added, or a dump of the image that the file spells was begun
+abbrev pub MayHaveBegun : (name : List ℕ) → Seen → Added → Type 0
+MayHaveBegun name found added =
+    (added ≡ nothing) ⊎ ((m : MachineImage) × Told found.told (λ c. IsNamed c name m) × HasBegun found.size found.block m added)
+
+-- the reply to an image that wasn't read
+abbrev pub RefusesImage : ImageFault → Result Reply Trouble → Type 0
+RefusesImage fault result =
+    IfOk result (λ reply. (answer : Answer) × ((found : Seen) → ByImage found (Err fault) (record { answer = answer; added = nothing })) × IsReplyOf answer reply)
+
+abbrev pub dump_row : (name : List ℕ) → Row
+dump_row name = record {
+  Does = λ found w. OnGood found (DumpsNamed name found) w;
+  Leaves = MayHaveBegun name;
+  Starves = AddsNothing;
+  Says = SaysNothing;
+  blames = the_site;
+}

@@ -1,0 +1,60 @@
+-- `read FILE ADDRESS LENGTH`: a saved minidump's bytes at kernel addresses.
+use Rattle.std.specs.Prelude.{◌≡◌, ℕ, List, Option, Some, None, Result, Ok, Err}
+use Rattle.fd_site.specs.Contents.{Contents, Told, file_of}
+use Rattle.fd_mini.specs.Kernel.{KernelBytes}
+use Rattle.fd_mini.specs.declared.address_fault.AddressFault.{AddressFault}
+use Rattle.fd_vmcore.specs.declared.open.OpenFault.{OpenFault}
+use Rattle.fd_vmcore.specs.declared.open.OpenFault.TheVariants as vmcore
+use Rattle.fd_kvm.specs.Answer.{answer_of, bytes_in}
+use Rattle.fd_kvm.specs.Reader.{Reader}
+use Rattle.fd_cli.specs.Row.{Row}
+use Rattle.fd_cli.specs.Rows.Common.{AddsNothing, Answers, SaysNothing, the_site}
+use Rattle.fd_cli.specs.declared.answer.Answer.{Answer}
+use Rattle.fd_cli.specs.declared.answer.Answer.TheVariants.{Read, Refused}
+use Rattle.fd_cli.specs.declared.refusal.Refusal.TheVariants.{Address, NoFile, Mini, Short, BadAvail}
+
+-- the answer, by the bytes and the first fault of an address
+abbrev pub answer_by : (va : ℕ) → List ℕ → Option AddressFault → Answer
+answer_by va bytes None = Read va bytes
+answer_by va bytes (Some fault) = Refused (Address fault)
+
+abbrev pub bytes_answer : (va : ℕ) → KernelBytes → Answer
+bytes_answer va given = answer_by va given.bytes given.fault
+
+-- what a read of a file gives, if there is the file
+abbrev pub file_answer : Option (List ℕ) → (va count : ℕ) → Result KernelBytes OpenFault
+file_answer None va count = Err vmcore.NoFile
+file_answer (Some f) va count = answer_of f va count
+
+-- the answer, by what the file gives
+abbrev pub IsAnswerToFile : (va : ℕ) → Result KernelBytes OpenFault → Answer → Type 0
+IsAnswerToFile va (Ok given) answer = answer ≡ bytes_answer va given
+IsAnswerToFile va (Err vmcore.NoFile) answer = answer ≡ Refused NoFile
+IsAnswerToFile va (Err (vmcore.Short need have)) answer = answer ≡ Refused (Short need have)
+IsAnswerToFile va (Err (vmcore.Mini fault)) answer = answer ≡ Refused (Mini fault)
+IsAnswerToFile va (Err (vmcore.BadAvail index)) answer = answer ≡ Refused (BadAvail index)
+IsAnswerToFile va (Err vmcore.SiteFault) answer = ⊥
+IsAnswerToFile va (Err vmcore.NoMemory) answer = ⊥
+
+-- the answer of a reader of a vmcore
+abbrev pub IsReaderAnswer : Option Contents → Reader → (va count : ℕ) → Answer → Type 0
+IsReaderAnswer told reader va count answer =
+    Told told (λ c. (f : List ℕ) → file_of c reader.name ≡ Some f → answer ≡ bytes_answer va (bytes_in f reader.sections va count))
+
+-- an answer that a read may have, whatever the file is
+abbrev pub IsSomeRead : (va : ℕ) → Answer → Type 0
+IsSomeRead va answer = (given : KernelBytes) × (answer ≡ bytes_answer va given)
+
+-- the answer over what the site tells
+abbrev pub IsReadAnswer : Option Contents → (name : List ℕ) → (va count : ℕ) → Answer → Type 0
+IsReadAnswer told name va count answer =
+    (given : Result KernelBytes OpenFault) × Told told (λ c. given ≡ file_answer (file_of c name) va count) × IsAnswerToFile va given answer
+
+abbrev pub read_row : (name : List ℕ) → (va count : ℕ) → Row
+read_row name va count = record {
+  Does = λ found w. IsReadAnswer found.told name va count w.answer × Answers w.answer w;
+  Leaves = AddsNothing;
+  Starves = AddsNothing;
+  Says = SaysNothing;
+  blames = the_site;
+}

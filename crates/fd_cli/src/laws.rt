@@ -1,0 +1,26 @@
+//! What follows from the rows of the commands alone.
+
+ghost use Rattle.std.specs.Prelude.{Option};
+ghost use Rattle.fd_cli.specs.Laws.{EachDumpIsSafe, IsSound, JudgeFindsDump, OnlyDoneOrFailedAdds};
+ghost use Rattle.fd_cli.specs.Rows.{row_of};
+ghost use Rattle.fd_cli.specs.declared.command.Command.{Command};
+
+/// However a command ends, what it added is what its row leaves.
+pub fn each_row_is_sound()
+    ensures { (command : Option Command) → IsSound (row_of command) }
+{}
+
+/// A call that ended with another status than 0 or 74 added nothing.
+pub fn only_done_or_failed_calls_add()
+    ensures { OnlyDoneOrFailedAdds }
+{}
+
+/// A judge finds the dump that `dump` wrote before it.
+pub fn each_dump_is_found()
+    ensures { JudgeFindsDump }
+{}
+
+/// Whatever `dump` left: each cut of it over a clear partition is refused, or is the image's dump.
+pub fn each_dump_is_safe()
+    ensures { EachDumpIsSafe }
+{}
