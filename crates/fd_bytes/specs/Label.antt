@@ -1,5 +1,5 @@
 -- Texts in fields of a fixed size.
-use Rattle.std.specs.Prelude.{◌≡◌, ℕ, ◌-◌, ◌==◌, nat_lt, if◌then◌else◌, List, [], ◌∷◌, ◌++◌, length, take}
+use Rattle.std.specs.Prelude.{◌≡◌, ℕ, ◌-◌, ◌<◌, ◌==◌, nat_lt, if◌then◌else◌, List, [], ◌∷◌, ◌++◌, length, take, All}
 
 -- the bytes before the first zero byte
 abbrev pub text_of : List ℕ → List ℕ
@@ -18,3 +18,8 @@ cut_text n bytes = take (n - 1) (text_of bytes)
 abbrev pub cut_version_text : ℕ → List ℕ → List ℕ
 cut_version_text n bytes =
     if nat_lt (length (text_of bytes)) n then text_of bytes else take (n - 2) (text_of bytes) ++ 10 ∷ []
+
+-- a text of bytes
+pub record IsByteText (text : List ℕ) : Type 0 where
+  pub no_zero : IsText text
+  pub bytes : All (λ byte. byte < 256) text

@@ -10,6 +10,7 @@ mod arch;
 mod field;
 mod label;
 mod number;
+mod page;
 mod profile;
 #[cfg(test)]
 mod tests;
@@ -20,4 +21,5 @@ pub use field::{
 };
 pub use label::Label;
 pub use number::{BadNumber, read_number};
+pub use page::Page;
 pub use profile::Profile;

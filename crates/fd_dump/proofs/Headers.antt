@@ -7,9 +7,9 @@ use Rattle.std.proofs.lemmas.List.Elements.{All-append, All-cons, All-nil, All-t
 use Rattle.fd_bytes.specs.declared.arch.Arch.{Arch}
 use Rattle.fd_bytes.specs.declared.arch.Arch.TheVariants.{Amd64, Arm64, Riscv}
 use Rattle.fd_bytes.specs.Arch.{name_of, header_version_of}
-use Rattle.fd_bytes.specs.Label.{IsText, text_of, cut_text, cut_version_text}
+use Rattle.fd_bytes.specs.Label.{IsByteText, IsText, text_of, cut_text, cut_version_text}
 use Rattle.fd_image.specs.Image.{MachineImage, IsValid, AreBytes}
-use Rattle.fd_kdh.specs.Header.{IsByteText, IsWithinFields}
+use Rattle.fd_kdh.specs.Header.{IsWithinFields}
 use Rattle.fd_dump.specs.Header.{header_of}
 use Rattle.fd_dump.proofs.Sizes.{minidump_small}
 

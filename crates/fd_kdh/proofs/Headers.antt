@@ -1,21 +1,21 @@
 -- What is read from the bytes of a header.
 use Rattle.std.proofs.Common.{◌≡◌, ℕ, zero, suc, Bool, true, false, cond, ◌-◌, ◌<◌, List, [], ◌∷◌, ◌++◌, get_or, length, take, drop, replicate, Err}
-use Rattle.std.proofs.Common.{Ok, refl, sym, subst, ◌∙◌, ap, arith, lit<, append_assoc, length-append}
+use Rattle.std.proofs.Common.{Ok, refl, sym, ◌∙◌, ap, arith, lit<, length-append}
 use Rattle.std.proofs.lemmas.List.{append-nil, length-replicate}
 use Rattle.std.proofs.lemmas.Slice.Eq.{bytes_eq-Decides}
-use Rattle.std.specs.Int.{w32, w64, to_be_bytes}
+use Rattle.std.specs.Int.{w32, to_be_bytes}
 use Rattle.std.specs.List.{concat}
 use Rattle.std.specs.Str.{bytes_eq}
 use Rattle.fd_bytes.specs.Field.{u32_be_at}
-use Rattle.fd_bytes.specs.Label.{IsText, text_of}
+use Rattle.fd_bytes.specs.Label.{IsByteText, IsText, text_of}
+use Rattle.fd_bytes.specs.Page.{filled}
 use Rattle.fd_bytes.proofs.Fields.{u32_be_at-spelled, u64_be_at-spelled}
 use Rattle.fd_bytes.proofs.Texts.{text_of-append}
 use Rattle.fd_kdh.specs.Parity.{words, xor_all}
 use Rattle.fd_kdh.specs.declared.header.Header.{Header}
-use Rattle.fd_kdh.specs.declared.header.HeaderFault.{HeaderFault}
 use Rattle.fd_kdh.specs.declared.header.HeaderFault.TheVariants.{Cleared, NoMagic, TextDump}
-use Rattle.fd_kdh.specs.Header.{FitsFields, IsByteText, IsWithinFields, by_magic, by_parity, by_version, cleared_magic, decoded, dump_header}
-use Rattle.fd_kdh.specs.Header.{fields_before_parity, fields_of, filled, live_magic, text_magic}
+use Rattle.fd_kdh.specs.Header.{FitsFields, IsWithinFields, by_magic, by_parity, by_version, cleared_magic, decoded, dump_header}
+use Rattle.fd_kdh.specs.Header.{fields_before_parity, fields_of, live_magic, text_magic}
 use Rattle.fd_kdh.proofs.Bytes.{AllBytes, AllBytes-append, AllBytes-be32, AllBytes-be64, AllBytes-concat, AllBytes-from_All, AllBytes-from_test}
 use Rattle.fd_kdh.proofs.Bytes.{AllBytes-zeros, EachBytes, xor_all-fits}
 use Rattle.fd_kdh.proofs.Parities.{sealed}
@@ -47,57 +47,14 @@ parity_word h = to_be_bytes w32 (xor_all (words (concat (fields_before_parity h)
 
 sized : (h : Header) → FitsFields h → AreSized sizes (fields_before_parity h)
 sized h fits =
-    let architecture = length-filled 12 h.architecture fits.architecture in
-    let hostname = length-filled 64 h.hostname fits.hostname in
-    let versionstring = length-filled 192 h.versionstring fits.versionstring in
-    let panicstring = length-filled 175 h.panicstring fits.panicstring in
-    (refl, (architecture, (refl, (refl, (refl, (refl, (refl, (refl, (hostname, (versionstring, (panicstring, (refl, (refl, (refl, tt))))))))))))))
+    (refl, (length-filled 12 h.architecture fits.architecture, (refl, (refl, (refl, (refl, (refl, (refl, (length-filled 64 h.hostname fits.hostname, (length-filled 192 h.versionstring fits.versionstring, (length-filled 175 h.panicstring fits.panicstring, (refl, (refl, (refl, tt))))))))))))))
 
 magic_bytes : AllBytes live_magic
 magic_bytes = AllBytes-from_test live_magic refl
 
 each_bytes : (h : Header) → IsWithinFields h → EachBytes (fields_before_parity h)
 each_bytes h within =
-    let front = AllBytes-filled 12 h.architecture within.architecture in
-    let hostname = AllBytes-filled 64 h.hostname within.hostname in
-    let versionstring = AllBytes-filled 192 h.versionstring within.versionstring in
-    let panicstring = AllBytes-filled 175 h.panicstring within.panicstring in (
-      magic_bytes,
-      (
-        front,
-        (
-          AllBytes-be32 4,
-          (
-            AllBytes-be32 h.architectureversion,
-            (
-              AllBytes-be64 h.dumplength,
-              (
-                AllBytes-be64 h.dumptime,
-                (
-                  AllBytes-be32 h.dumpkeysize,
-                  (
-                    AllBytes-be32 h.blocksize,
-                    (
-                      hostname,
-                      (
-                        versionstring,
-                        (
-                          panicstring,
-                          (
-                            (within.compression, tt),
-                            (AllBytes-be64 h.dumpextent, (AllBytes-be32 0, tt)),
-                          ),
-                        ),
-                      ),
-                    ),
-                  ),
-                ),
-              ),
-            ),
-          ),
-        ),
-      ),
-    )
+    (magic_bytes, (AllBytes-filled 12 h.architecture within.architecture, (AllBytes-be32 4, (AllBytes-be32 h.architectureversion, (AllBytes-be64 h.dumplength, (AllBytes-be64 h.dumptime, (AllBytes-be32 h.dumpkeysize, (AllBytes-be32 h.blocksize, (AllBytes-filled 64 h.hostname within.hostname, (AllBytes-filled 192 h.versionstring within.versionstring, (AllBytes-filled 175 h.panicstring within.panicstring, ((within.compression, tt), (AllBytes-be64 h.dumpextent, (AllBytes-be32 0, tt))))))))))))))
 
 -- all fields but the parity word have 508 bytes, and a header has 512
 length-fields : (h : Header) → FitsFields h → length (concat (fields_before_parity h)) ≡ 508

@@ -1,20 +1,17 @@
 -- The header of a kernel dump, version 4, as it is written and read (sys/kerneldump.h).
-use Rattle.std.specs.Prelude.{ℕ, ◌-◌, ◌<◌, ◌^◌, ◌==◌, List, [], ◌∷◌, ◌++◌, length, replicate, slice_index, codes, All, if◌then◌else◌, Result, Ok, Err}
+use Rattle.std.specs.Prelude.{ℕ, ◌<◌, ◌^◌, ◌==◌, List, [], ◌∷◌, ◌++◌, length, slice_index, codes, if◌then◌else◌, Result, Ok, Err}
 use Rattle.std.specs.Int.{w32, w64, to_be_bytes}
 use Rattle.std.specs.List.{concat}
 use Rattle.std.specs.Str.{bytes_eq}
 use Rattle.fd_bytes.specs.Field.{u32_be_at, u64_be_at}
-use Rattle.fd_bytes.specs.Label.{IsText, text_of}
+use Rattle.fd_bytes.specs.Label.{IsByteText, text_of}
+use Rattle.fd_bytes.specs.Page.{filled}
 use Rattle.fd_kdh.specs.Layout.{Magic, Architecture, Version, ArchitectureVersion, DumpLength, DumpTime, DumpKeySize, BlockSize, HostName}
 use Rattle.fd_kdh.specs.Layout.{VersionString, PanicString, Compression, DumpExtent, bytes_of, size_of, start_of}
 use Rattle.fd_kdh.specs.Parity.{words, xor_all}
 use Rattle.fd_kdh.specs.declared.header.Header.{Header}
 use Rattle.fd_kdh.specs.declared.header.HeaderFault.{HeaderFault}
 use Rattle.fd_kdh.specs.declared.header.HeaderFault.TheVariants.{NoMagic, TextDump, Cleared, UnknownVersion, BadParity}
-
--- a text, and zeros to the end of its field of n bytes
-abbrev pub filled : ℕ → List ℕ → List ℕ
-filled n text = text ++ replicate (n - length text) 0
 
 -- KERNELDUMPMAGIC: a dump lies behind the header
 abbrev pub live_magic : List ℕ
@@ -95,11 +92,6 @@ pub record FitsFields (h : Header) : Type 0 where
   pub hostname : length h.hostname < size_of HostName
   pub versionstring : length h.versionstring < size_of VersionString
   pub panicstring : length h.panicstring < size_of PanicString
-
--- a text of bytes
-pub record IsByteText (text : List ℕ) : Type 0 where
-  pub no_zero : IsText text
-  pub bytes : All (λ byte. byte < 256) text
 
 -- each number is within the type of its field, and each label is a text that is shorter than its field
 pub record IsWithinFields (h : Header) : Type 0 where

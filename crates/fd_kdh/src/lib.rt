@@ -10,7 +10,6 @@ mod encoding;
 mod header;
 pub mod laws;
 mod layout;
-mod page;
 mod parity;
 #[cfg(test)]
 mod tests;

@@ -1,3 +1,2 @@
 mod Back
-mod Fronts
 pub mod Layouts

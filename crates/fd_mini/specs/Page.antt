@@ -1,7 +1,8 @@
 -- The header page of a minidump: struct minidumphdr (minidump.h of each architecture). Numbers are little-endian.
-use Rattle.std.specs.Prelude.{ℕ, ◌+◌, ◌-◌, Bool, if◌then◌else◌, List, [], ◌++◌, length, replicate}
+use Rattle.std.specs.Prelude.{ℕ, ◌+◌, Bool, if◌then◌else◌, List, [], ◌++◌}
 use Rattle.std.specs.Int.{w32, w64, to_le_bytes}
 use Rattle.fd_bytes.specs.Field.{u32_le_at, u64_le_at}
+use Rattle.fd_bytes.specs.Page.{filled}
 use Rattle.fd_bytes.specs.declared.arch.Arch.{Arch}
 use Rattle.fd_mini.specs.Layout.{layout_of, magic_of}
 use Rattle.fd_mini.specs.declared.header.MiniHeader.{MiniHeader}
@@ -26,13 +27,9 @@ front_of h =
     ++ to_le_bytes w32 h.dumpavailsize
     ++ when layout.has_flags (to_le_bytes w32 h.flags)
 
--- a page that begins with these bytes and is zero after them
-abbrev pub filled : List ℕ → List ℕ
-filled front = front ++ replicate (4096 - length front) 0
-
 -- the header page of these fields
 unfoldable pub page_of : MiniHeader → List ℕ
-page_of h = filled (front_of h)
+page_of h = filled 4096 (front_of h)
 
 -- how many bytes dmapphys takes, which only some pages have
 abbrev pub shift_of : Bool → ℕ

@@ -4,7 +4,6 @@
 #![tactic(auto)]
 
 mod address_fault;
-mod front;
 mod header;
 mod law;
 mod layout;

@@ -4,9 +4,9 @@ ghost use Rattle.std.specs.Int.{w32, w64, to_le_bytes};
 ghost use Rattle.fd_mini.specs.Layout.{has_version};
 ghost use Rattle.fd_mini.specs.Page.{page_of, when};
 
-use crate::front::Front;
 use crate::header::MiniHeader;
 use crate::layout::{layout_of, magic_of};
+use fd_bytes::Page;
 
 /// Writes the header page of these fields, with zeros after the last. The version has to be one of the
 /// architecture's that are known.
@@ -15,37 +15,37 @@ pub fn write_header(header: &MiniHeader, out: &mut [u8; 4096])
     ensures { out.new ≡ page_of header.now }
 {
     let layout = layout_of(header.arch, header.version);
-    let mut front = Front::new();
-    front.put(magic_of(header.arch));
-    front.put_u32(header.version);
-    front.put_u32(header.msgbufsize);
-    front.put_u32(header.bitmapsize);
-    front.put_u32(header.pmapsize);
-    front.put_u64(header.kernbase);
-    put_u64_when(&mut front, layout.has_dmapphys, header.dmapphys);
-    front.put_u64(header.dmapbase);
-    front.put_u64(header.dmapend);
-    front.put_u32(header.dumpavailsize);
-    put_u32_when(&mut front, layout.has_flags, header.flags);
-    *out = front.page();
+    let mut page = Page::<4096>::new();
+    page.put(magic_of(header.arch));
+    page.put_u32_le(header.version);
+    page.put_u32_le(header.msgbufsize);
+    page.put_u32_le(header.bitmapsize);
+    page.put_u32_le(header.pmapsize);
+    page.put_u64_le(header.kernbase);
+    put_u64_when(&mut page, layout.has_dmapphys, header.dmapphys);
+    page.put_u64_le(header.dmapbase);
+    page.put_u64_le(header.dmapend);
+    page.put_u32_le(header.dumpavailsize);
+    put_u32_when(&mut page, layout.has_flags, header.flags);
+    *out = *page.bytes();
 }
 
 // Appends the number where the page has the field.
-fn put_u32_when(front: &mut Front, has_field: bool, value: u32)
-    requires { length front.old + 4 ≤ 4096 }
-    ensures { front.new ≡ front.old ++ when has_field (to_le_bytes w32 value) }
+fn put_u32_when(page: &mut Page<4096>, has_field: bool, value: u32)
+    requires { length page.old + 4 ≤ 4096 }
+    ensures { page.new ≡ page.old ++ when has_field (to_le_bytes w32 value) }
 {
     if has_field {
-        front.put_u32(value);
+        page.put_u32_le(value);
     }
 }
 
-fn put_u64_when(front: &mut Front, has_field: bool, value: u64)
-    requires { length front.old + 8 ≤ 4096 }
-    ensures bytes { front.new ≡ front.old ++ when has_field (to_le_bytes w64 value) }
-    ensures len { length front.new ≤ length front.old + 8 }
+fn put_u64_when(page: &mut Page<4096>, has_field: bool, value: u64)
+    requires { length page.old + 8 ≤ 4096 }
+    ensures bytes { page.new ≡ page.old ++ when has_field (to_le_bytes w64 value) }
+    ensures len { length page.new ≤ length page.old + 8 }
 {
     if has_field {
-        front.put_u64(value);
+        page.put_u64_le(value);
     }
 }

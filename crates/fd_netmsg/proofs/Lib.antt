@@ -1,0 +1,3 @@
+pub mod Messages
+mod Reading
+mod Writing
