@@ -7,10 +7,10 @@ use base.Fml.{ftrue, fat, froom}
 use mir.Syntax.{ty_int}
 use mir.Val.{vint}
 use types.Logic.{Logic, sem}
-use types.Kit.{‵, ◌⊛◌, ◌$◌, ◌∵◌, !, qed, by, move, drop, use1, use2, split, fsplit, fjoin, rewrite, done}
+use types.Kit.{‵, ◌⊛◌, ◌$◌, ◌∵◌, !, qed, move, drop, use1, use2, split, fsplit, fjoin, rewrite, done}
 use types.SemTy.{cells}
 use denote.Builtin.{u8}
-use denote.Memory.{mem, part_at}
+use denote.Memory.{mem}
 use denote.Param.Laws.{Laws, of_field}
 use denote.Param.Shared.{copy_shared}
 use denote.Plain.{uint_out}
@@ -25,14 +25,18 @@ byte_laws = of_field u8-field u8-laws refl (copy_shared u8-field u8-copy)
 module _ {M : Type 1} {𝓤 : Ura M} (𝓛 : Logic 𝓤) (b : ℕ) where
   open 𝓛 use {H}
 
-  -- a byte behind the others is one of them
-  pub pushed : (xs : List ℕ) (x o at : ℕ) → at ≡ length xs + o
-      → ent 𝓤 (sep 𝓤 (sem 𝓛 (cells (mem u8) xs b o)) (sem 𝓛 (part_at u8 full_share x b at))) (sem 𝓛 (cells (mem u8) (xs ++ x ∷ []) b o))
-  pushed [] x o at e =
-      qed 𝓛 (‵ ftrue ∷ ‵ (part_at u8 full_share x b at) ∷ []) ∵ drop ! $ rewrite ! 0 (λ k. ‵ (part_at u8 full_share x b k)) {x = o} (omega arith) refl $ nothing ! $ move ! (1 ∷ 0 ∷ []) $ fjoin ! $ done !
-  pushed (y ∷ ys) x o at e =
-      qed 𝓛 (‵ (cells (mem u8) (y ∷ ys) b o) ∷ ‵ (part_at u8 full_share x b at) ∷ []) ∵ fsplit ! $ move ! (1 ∷ 2 ∷ []) $
-      use2 𝓛 (‵ (cells (mem u8) (ys ++ x ∷ []) b (o + 1))) (pushed ys x (o + 1) at (omega arith)) $ move ! (1 ∷ 0 ∷ []) $ fjoin ! $ done !
+  -- bytes are cut in two, and put side by side
+  pub cut : (xs ys : List ℕ) (o at : ℕ) → at ≡ length xs + o → ent 𝓤 (sem 𝓛 (cells (mem u8) (xs ++ ys) b o)) (sep 𝓤 (sem 𝓛 (cells (mem u8) xs b o)) (sem 𝓛 (cells (mem u8) ys b at)))
+  cut [] ys o at e = qed 𝓛 (‵ (cells (mem u8) ys b o) ∷ []) ∵ rewrite ! 0 (λ k. ‵ (cells (mem u8) ys b k)) {x = at} (omega arith) refl $ nothing ! $ done !
+  cut (x ∷ xs) ys o at e =
+      qed 𝓛 (‵ (cells (mem u8) (x ∷ xs ++ ys) b o) ∷ []) ∵ fsplit ! $ move ! (1 ∷ []) $
+      use1 𝓛 (‵ (cells (mem u8) xs b (o + 1)) ⊛ ‵ (cells (mem u8) ys b at)) (cut xs ys (o + 1) at (omega arith)) $ split ! $ move ! (2 ∷ 0 ∷ []) $ fjoin ! $ done !
+
+  pub beside : (xs ys : List ℕ) (o at : ℕ) → at ≡ length xs + o → ent 𝓤 (sep 𝓤 (sem 𝓛 (cells (mem u8) xs b o)) (sem 𝓛 (cells (mem u8) ys b at))) (sem 𝓛 (cells (mem u8) (xs ++ ys) b o))
+  beside [] ys o at e = qed 𝓛 (‵ ftrue ∷ ‵ (cells (mem u8) ys b at) ∷ []) ∵ drop ! $ rewrite ! 0 (λ k. ‵ (cells (mem u8) ys b k)) {x = o} (omega arith) refl $ done !
+  beside (x ∷ xs) ys o at e =
+      qed 𝓛 (‵ (cells (mem u8) (x ∷ xs) b o) ∷ ‵ (cells (mem u8) ys b at) ∷ []) ∵ fsplit ! $ move ! (1 ∷ 2 ∷ []) $
+      use2 𝓛 (‵ (cells (mem u8) (xs ++ ys) b (o + 1))) (beside xs ys (o + 1) at (omega arith)) $ move ! (1 ∷ 0 ∷ []) $ fjoin ! $ done !
 
   -- bytes and the room behind them are room
   pub freed : (xs : List ℕ) (n o at : ℕ) → at ≡ length xs + o

@@ -1,6 +1,6 @@
 //! The block behind a region: bytes that are written, and room for more after them. The five functions with a
 //! raw pointer are here.
-ghost use Rattle.std.specs.Prelude.{◌≡◌, ℕ, ◌+◌, ◌^◌, ◌<◌, List, [], ◌∷◌, ◌++◌, length, IfOk};
+ghost use Rattle.std.specs.Prelude.{◌≡◌, ℕ, ◌+◌, ◌^◌, ◌<◌, ◌≤◌, List, [], ◌∷◌, ◌++◌, length, slice_range, IfOk};
 ghost use Rattle.std.specs.Borrow.{sem};
 ghost use Rattle.std.specs.declared.alloc.Global.{Global as Heap};
 ghost use Rattle.fd_raw.specs.Ownership.{cells_own, cells_lent};
@@ -61,12 +61,12 @@ impl Cells {
         unsafe { slice::from_raw_parts(self.ptr, len) }
     }
 
-    /// The `len` bytes that are written, to write to.
-    pub(crate) fn bytes_mut(&mut self, len: usize) -> &mut [u8]
-        requires { len ≡ length self.old.bytes }
-        ensures* writes_back { sem 𝓛 (lends_bytes self.entry result) }
-        ensures value { result.now ≡ self.old.bytes }
+    /// The `len` bytes from the index `at` on, to write to.
+    pub(crate) fn part_mut(&mut self, at: usize, len: usize) -> &mut [u8]
+        requires { at + len ≤ length self.old.bytes }
+        ensures* writes_back { sem 𝓛 (lends_bytes self.entry at len result) }
+        ensures value { result.now ≡ slice_range self.old.bytes at (at + len) }
     {
-        unsafe { slice::from_raw_parts_mut(self.ptr, len) }
+        unsafe { slice::from_raw_parts_mut(self.ptr.add(at), len) }
     }
 }

@@ -29,7 +29,7 @@ use Rattle.std.specs.contracts.impls.GlobalAllocator.TheImpl.{ghosts}
 use Rattle.fd_raw.specs.Ownership.{bytes_type, cells_own}
 use Rattle.fd_raw.specs.contracts.cells.Cells.{the_row as R}
 use Rattle.fd_raw.specs.contracts.cells.Cells.push as f
-use Rattle.fd_raw.proofs.Memory.{pushed}
+use Rattle.fd_raw.proofs.Memory.{beside}
 use Rattle.fd_raw.proofs.cells.Cells.TheLaws.{lowers}
 use Rattle.fd_raw.proofs.cells.Cells.push.Statement.{statement}
 use Rattle.fd_raw.proofs.cells.Cells.push.Code as code
@@ -70,8 +70,8 @@ push_spec 𝓤 𝓛 𝓜 𝓡 wired =
     assigns_last ! (of_opd ! (get ! refl)) (through ! refl (stop !)) (init ! 0 refl (tt, record { fits = are.1.1.0.1 })) $
     exec ! 𝓣.C 𝓣.Λ (env code.Mir.locals l) (after 1 (code.function).body) (at_ret _ (W.post y)) $
     sets ! (of_opd ! (unit_lit !)) refl (tt, tt) $
-    use1 𝓛 (‵ (part_at u8 full_share byte b' at)) (uint_in 𝓛 full_share w8 byte b' at) $ move ! (3 ∷ 0 ∷ []) $
-    use2 𝓛 (‵ (cells (mem u8) new.bytes b' o')) (pushed 𝓛 b' h.bytes byte o' at refl) $
+    use1 𝓛 (‵ (part_at u8 full_share byte b' at)) (uint_in 𝓛 full_share w8 byte b' at) $ nothing ! $ move ! (1 ∷ 0 ∷ []) $ fjoin ! $ move ! (3 ∷ 0 ∷ []) $
+    use2 𝓛 (‵ (cells (mem u8) new.bytes b' o')) (beside 𝓛 b' h.bytes (byte ∷ []) o' at refl) $
     rewrite ! 1 (λ k. ‵ (froom (bytes_type room) b' k)) longer refl $
     rewrite ! 2 (λ k. ‵ (ghosts.dealloc_token h.alloc (bytes_type k) (block_ptr b' o'))) same refl $
     move ! (1 ∷ 2 ∷ []) $ fjoin ! $ move ! (1 ∷ 0 ∷ []) $ fjoin ! $
