@@ -10,6 +10,8 @@
 mod cells;
 mod filling;
 mod region;
+#[cfg(test)]
+mod tests;
 
 pub use filling::Filling;
 pub use region::Region;
