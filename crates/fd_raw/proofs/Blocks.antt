@@ -1,6 +1,6 @@
 -- `Global`'s `allocate` and `deallocate` at a call, for a block of n bytes. Assumes `Logic`.
 use Rattle.std.proofs.Common.{◌≡◌, ℕ, ◌^◌, ◌<◌, List, [], ◌∷◌, refl, ap, ◌∙◌, w64, arith, mul-one, Global, lit<}
-use Rattle.std.proofs.alloc.Calls.{Al, Answer, Answered, at_takes as at_any, Takes as Takes_any, Takes-gives}
+use Rattle.std.proofs.alloc.Calls.{Al, Answer, Answered, Takes-gives}
 use Rattle.std.proofs.alloc.Global.TheLaws as heap_laws
 use Rattle.std.specs.Allocator.{HasLayout, block_if_ok}
 use Rattle.std.specs.contracts.alloc.Global as heap
@@ -23,7 +23,7 @@ use mir.Val.{Val, vunit, vint, vptr}
 use prog.Capped.{capped_is}
 use prog.Memory.{Memory, capped}
 use prog.Routine.{Routine}
-use types.Kit.{‵, raw, ◌⊛◌, some, later, await, pick, check, show, updating, now, ◌$◌, ◌∵◌, !, qed, done, move, keep, drop, use0, use1, split, join, fsplit, fjoin, feq_i, feq_l, flt_i, suffices, group, frame, mean}
+use types.Kit.{‵, raw, ◌⊛◌, some, later, await, pick, check, show, updating, now, ◌$◌, ◌∵◌, !, qed, done, move, keep, use0, use1, split, join, fjoin, feq_i, feq_l, flt_i, suffices, group, frame, mean}
 use types.Logic.{Logic, sem}
 use Rattle.fd_raw.specs.Ownership.{bytes_type}
 

@@ -1,2 +1,3 @@
 mod Blocks
-pub mod Memory
+mod Memory
+pub mod Written

@@ -1,9 +1,9 @@
 -- `allocate` takes a block, all of it room, and keeps the right to free it. Assumes `Logic`.
-use Rattle.std.proofs.Common.{◌≡◌, ℕ, zero, ◌+◌, ◌^◌, ◌<◌, List, [], ◌∷◌, length, refl, sym, ap, subst, ◌∙◌, w64, arith, lit<, IfOk, Ok, Err, zero-add}
+use Rattle.std.proofs.Common.{◌≡◌, ◌+◌, ◌^◌, ◌<◌, List, [], ◌∷◌, refl, sym, subst, w64, lit<, IfOk, Ok, Err, zero-add}
 use Rattle.std.proofs.alloc.Calls.{Answer-typed, Answered, answers}
 use Rattle.std.proofs.alloc.Shapes.{head, arm_body}
 use Rattle.std.proofs.raw_atomic.Walks.{proved}
-use Rattle.std.proofs.RcSteps.{Good, word, word-Good, first_Good}
+use Rattle.std.proofs.RcSteps.{word, word-Good, first_Good}
 use Rattle.std.proofs.ResultValues.{ok_of, err_of}
 use Rattle.std.proofs.VecSteps.Shapes.{after}
 use Rattle.std.proofs.impls.GlobalAllocator.allocate.Met.{met}
@@ -11,15 +11,12 @@ use Rattle.std.specs.contracts.alloc.Global as heap
 use Rattle.std.specs.contracts.alloc.AllocError as AE
 use Rattle.std.specs.contracts.impls.GlobalAllocator.TheImpl.{ghosts}
 use Rattle.std.specs.contracts.result.Result as RS
-use seplogic.Ra.Ura.{Ura}
-use base.Logic.{SProp, id⊢}
-use base.Fml.{ftrue, flft, flt, froom}
+use base.Fml.{ftrue, flft, froom}
 use contract.Monad.{fact}
 use contract.Running.{tables}
 use denote.Builtin.{usize, RefOf}
 use denote.Exit.{yes}
 use denote.Laws.{Is}
-use denote.Memory.{hidden_shr}
 use denote.Param.{layout}
 use denote.Plain.{uint_vals, uint_Tells}
 use denote.RattleType.{RattleType, Valss}
@@ -33,22 +30,20 @@ use denote.Struct.Struct.{Struct, Struct-Makes, within}
 use denote.Triple.Call.{calls_at}
 use denote.Triple.Table.{framed}
 use denote.Triple.Walked.{Stays, walk_of, says, stay_dropped, Goes-dropped, ends_at}
-use lib.Dec.{T}
 use mathlib.Core.Bool.{true, false}
 use mir.Syntax.{Body, named}
-use mir.Val.{Val, vint, vstruct, vcons, vnil}
+use mir.Val.{Val, vstruct, vcons, vnil}
 use prog.Wp.{Wp, after_seq, at_return}
 use types.ByLocal.{alloc_all, pass_all, free_all, look_at, get, get_in, get_tag, sets, sets_last, lands_as, env}
-use types.Kit.{Post as After, any_q, Item, Sq, prop, ‵, raw, ◌⊛◌, later, await, at_ret, ◌$◌, ◌∵◌, !, qed, done, move, keep, drop, use0, use1, use2, split, join, fsplit, fjoin, fpack, feq_i, flt_i, rewrite, suffices, frame, group}
+use types.Kit.{Post as After, any_q, Sq, prop, ‵, raw, ◌⊛◌, later, await, at_ret, ◌$◌, ◌∵◌, !, qed, done, move, keep, use1, use2, split, join, fsplit, fjoin, fpack, feq_i, flt_i, rewrite, suffices, frame}
 use types.Match.{live, vrt, in_variant}
-use types.Part.{whole, sub, agg}
+use types.Part.{whole, agg}
 use types.Run.{enter, of_opd, lit, stop, fld, and_then, no_more, first, exec, switches_on, returns}
-use Rattle.fd_raw.specs.Ownership.{bytes_type, cells_own}
+use Rattle.fd_raw.specs.Ownership.{bytes_type}
 use Rattle.fd_raw.specs.declared.cells.Cells.{Cells}
 use Rattle.fd_raw.specs.contracts.cells.Cells.{the_row as R, the_type}
 use Rattle.fd_raw.specs.contracts.cells.allocate as f
 use Rattle.fd_raw.proofs.Blocks.{Z, Takes, at_takes, takes_goes, takes_back}
-use Rattle.fd_raw.proofs.cells.Cells.TheLaws.{lowers}
 use Rattle.fd_raw.proofs.cells.allocate.Statement.{statement}
 use Rattle.fd_raw.proofs.cells.allocate.Code as code
 

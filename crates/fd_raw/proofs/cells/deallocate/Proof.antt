@@ -1,33 +1,30 @@
 -- `deallocate` makes room of the bytes, and hands the block back with the right to free it. Assumes `Logic`.
-use Rattle.std.proofs.Common.{◌≡◌, ℕ, ◌+◌, ◌^◌, ◌<◌, List, [], ◌∷◌, length, refl, sym, ap, subst, ◌∙◌, w64, arith, Global}
+use Rattle.std.proofs.Common.{◌≡◌, ℕ, ◌+◌, ◌^◌, ◌<◌, List, [], ◌∷◌, length, refl, sym, ap, subst, w64, Global}
 use Rattle.std.proofs.alloc.Calls.{Goes-blank}
 use Rattle.std.proofs.raw_atomic.Walks.{proved}
 use Rattle.std.proofs.VecSteps.Shapes.{after}
 use Rattle.std.proofs.impls.GlobalAllocator.deallocate.Met.{met}
 use Rattle.std.specs.contracts.alloc.Global as heap
 use Rattle.std.specs.contracts.impls.GlobalAllocator.TheImpl.{ghosts}
-use seplogic.Ra.Ura.{Ura}
 use base.Logic.{id⊢}
 use base.Fml.{ftrue, flft, froom}
 use contract.Monad.{fact}
 use contract.Running.{tables}
 use denote.Builtin.{usize, RefOf}
 use denote.Exit.{yes}
-use denote.Laws.{shows}
-use denote.Memory.{hidden_shr}
 use denote.Plain.{uint_vals, uint_Tells}
-use denote.RawPtr.{Ptr, block_ptr, in_a_block, ptr_val}
+use denote.RawPtr.{block_ptr, in_a_block, ptr_val}
 use denote.Ref.{ShrRef, shr_vals, shr_Tells}
 use denote.Signature.{plain}
-use denote.Steps.{nothing, peeks, heard}
+use denote.Steps.{nothing, heard}
 use denote.Triple.Call.{calls_at_last}
 use denote.Triple.Table.{framed}
 use denote.Triple.Walked.{Stays, walk_of, stay_dropped, Goes-dropped, ends_at}
 use lib.Dec.{T}
 use mir.Syntax.{named, ty_unit}
-use mir.Val.{Val, vunit, vint, has_ty, WT}
+use mir.Val.{Val, vunit, has_ty, WT}
 use types.ByLocal.{alloc_all, pass_all, free_all, look_at, get, get_in, sets, is, env, lands_last}
-use types.Kit.{‵, raw, ◌⊛◌, later, given, learn, await, at_ret, ◌$◌, ◌∵◌, !, qed, done, move, keep, drop, use1, use2, split, join, fsplit, feq_i, feq_l, flt_l, rewrite, suffices, group}
+use types.Kit.{‵, raw, ◌⊛◌, later, given, learn, await, at_ret, ◌$◌, ◌∵◌, !, qed, done, move, keep, use1, use2, split, join, fsplit, feq_i, flt_l, rewrite, suffices, group}
 use types.Part.{whole, sub}
 use Rattle.std.proofs.RcSteps.{word-Good}
 use types.Run.{enter, of_opd, lit, unit_lit, stop, fld, and_then, no_more, first, blocks, exec, returns}

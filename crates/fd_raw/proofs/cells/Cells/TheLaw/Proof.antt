@@ -1,20 +1,17 @@
 -- A `&` to a block reaches its bytes. Assumes `Logic`.
-use Rattle.std.specs.Prelude.{ℕ, ◌+◌, ◌^◌, List, [], ◌∷◌, length, refl}
+use Rattle.std.specs.Prelude.{ℕ, ◌+◌, ◌^◌, List, [], ◌∷◌, length}
 use seplogic.Ra.Ura.{Ura}
-use mir.Syntax.{ty_int, ty_array, w8}
-use mir.Raw.{raw}
 use base.Fml.{Lft, ftrue, ffalse, fsep, flt, froom, Incl, Incl-refl}
 use types.Logic.{Logic}
 use types.SemTy.{cells}
 use denote.Builtin.{u8}
 use denote.Memory.{mem, part_at, shared_of}
 use base.Fraction.{full_share}
-use denote.RawPtr.{Ptr, RawPtr, block_ptr, null_ptr}
-use denote.Sharing.{ShrLaws, said, beside}
-use denote.SharingLaws.{beside_shr_laws, said_shr_laws, nothing_shr_laws}
+use denote.RawPtr.{Ptr, block_ptr, null_ptr}
+use denote.Sharing.{ShrLaws, said}
+use denote.SharingLaws.{beside_shr_laws, said_shr_laws}
 use denote.Shares.{Shares-less}
 use denote.Slice.{elements_shared, elements_shr_laws}
-use denote.Param.Laws.{Laws}
 use denote.Param.Shared.{copy_shared}
 use denote.Struct.Laws.{RawPtr-copy}
 use denote.Struct.Lending.{Lends, Lends-both, Lends-first, Lends-nothing, Lends-said, Lends-false, of_Lends}

@@ -1,14 +1,13 @@
 -- `bytes` lends the bytes to be read. Assumes `Logic`.
-use Rattle.std.proofs.Common.{◌≡◌, ℕ, ◌+◌, ◌*◌, ◌^◌, ◌<◌, List, [], ◌∷◌, length, refl, sym, ap, w64, arith}
+use Rattle.std.proofs.Common.{◌≡◌, ℕ, ◌+◌, ◌*◌, ◌^◌, ◌<◌, List, [], ◌∷◌, length, refl, ap, w64, arith}
 use Rattle.std.proofs.raw_atomic.Walks.{proved}
 use Rattle.std.proofs.VecSteps.Shapes.{after}
 use Rattle.std.proofs.Words.{pointer_in, pointer_out}
-use seplogic.Ra.Ura.{Ura}
 use base.Logic.{never, id⊢}
 use base.Fml.{ftrue, flft}
 use contract.Monad.{fact}
 use contract.Running.{tables}
-use denote.Builtin.{u8, usize, RefOf}
+use denote.Builtin.{usize, RefOf}
 use denote.Exit.{yes}
 use denote.Memory.{hidden_shr}
 use denote.Opens.{shr_dup, unhide, hide}
@@ -22,7 +21,7 @@ use denote.Triple.Walked.{Stays, walk_of, says, stay_dropped, Goes-dropped, ends
 use mir.Syntax.{named}
 use mir.Val.{Val}
 use types.ByLocal.{alloc_all, pass_all, free_all, look_at, get, through, sets, sets_last, is, env}
-use types.Kit.{‵, raw, ◌⊛◌, at_ret, ◌$◌, ◌∵◌, !, qed, done, move, keep, drop, split, join, fsplit, fjoin, feq_i, flt_l, flt_i, rewrite, suffices, frame}
+use types.Kit.{‵, raw, ◌⊛◌, at_ret, ◌$◌, ◌∵◌, !, qed, done, move, keep, split, join, fsplit, fjoin, feq_i, flt_l, flt_i, rewrite, suffices, frame}
 use types.Part.{agg}
 use types.Run.{enter, of_opd, load, look, stop, fld, and_then, no_more, first, blocks, exec, returns}
 use Rattle.fd_raw.specs.Ownership.{cells_lent}

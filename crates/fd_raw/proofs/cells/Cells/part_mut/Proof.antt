@@ -1,12 +1,12 @@
 -- `part_mut` lends some of the bytes, and the block follows them. Assumes `Logic`.
-use Rattle.std.proofs.Common.{◌≡◌, ℕ, ◌+◌, ◌-◌, ◌^◌, ◌<◌, ◌≤◌, List, [], ◌∷◌, ◌++◌, length, take, drop, slice_range, refl, sym, ap, subst, ◌∙◌, w64, arith, take_at, take-append-drop, length-append, length-take, length-drop}
+use Rattle.std.proofs.Common.{◌≡◌, ℕ, ◌+◌, ◌^◌, ◌<◌, ◌≤◌, List, [], ◌∷◌, ◌++◌, length, take, drop, slice_range, refl, sym, ap, subst, ◌∙◌, w64, arith, take-append-drop, length-append, length-take, length-drop}
 use Rattle.std.proofs.lemmas.List.Folds.{drop_split}
 use Rattle.std.proofs.raw_atomic.Walks.{proved}
 use Rattle.std.specs.List.{refill}
 use seplogic.Ra.Ura.{Ura}
 use base.Fraction.{full_share}
 use base.Logic.{ent, sep, id⊢}
-use base.Fml.{GName, Fml, ftrue, fsep, flft, flt, froom}
+use base.Fml.{GName, Fml, ftrue, fsep, flft, froom}
 use mir.Syntax.{named}
 use mir.Val.{Val}
 use contract.Monad.{fact}
@@ -42,15 +42,13 @@ use Rattle.fd_raw.specs.declared.cells.Cells.{Cells}
 use Rattle.fd_raw.specs.contracts.cells.Cells.{the_row as R, the_type}
 use Rattle.fd_raw.specs.contracts.cells.Cells.part_mut as f
 use Rattle.fd_raw.proofs.Memory.{cut, beside}
+use Rattle.fd_raw.proofs.Written.{part-long, refilled}
 use Rattle.fd_raw.proofs.cells.Cells.TheLaws.{lowers}
 use Rattle.fd_raw.proofs.cells.Cells.part_mut.Statement.{statement}
 use Rattle.fd_raw.proofs.cells.Cells.part_mut.Code as code
 
 abbrev stayed : Stays f.ended.signature.params f.ended.kept
 stayed = (stay_dropped (mut_ref_to (0 ∷ []) tt (plain (λ _. R))) no, (stay_dropped _ yes, (stay_dropped _ yes, tt)))
-
-part-long : (xs : List ℕ) (at len : ℕ) → at + len ≤ length xs → length (slice_range xs at (at + len)) ≡ len
-part-long xs at len within = omega (arith, within, length-take (at + len - at) (drop at xs), length-drop at xs)
 
 module _ {M : Type 1} {𝓤 : Ura M} (𝓛 : Logic 𝓤) (h : Cells) (us : List Val) (rb ro b o at len : ℕ) where
   abbrev part : List ℕ
@@ -71,7 +69,7 @@ module _ {M : Type 1} {𝓤 : Ura M} (𝓛 : Logic 𝓤) (h : Cells) (us : List 
   back e within small ws same =
       let xs = h.bytes in let front = take at xs in let rest = drop (at + len) xs in
       let long : length part ≡ len = part-long xs at len within in
-      let refilled : ws ≡ refill len part ws = sym (take_at ws (drop (length ws) part) len (same ∙ long)) in
+      let refilled : ws ≡ refill len part ws = sym (refilled len part ws (same ∙ long)) in
       let count : length xs ≡ length (new ws).bytes =
       omega (arith, same, long, length-take at xs, length-drop (at + len) xs, length-append front (ws ++ rest), length-append ws rest) ∙ ap (λ l. length (front ++ (l ++ rest))) refilled in
       qed 𝓛 (‵ (cells (mem u8) ws b (at + o)) ∷ ‵ Rest ∷ []) ∵ move ! (1 ∷ []) $ fsplit ! $ fsplit ! $ move ! (3 ∷ 1 ∷ []) $

@@ -1,16 +1,15 @@
 -- `push` makes the first byte of the room the last that is written. Assumes `Logic`.
-use Rattle.std.proofs.Common.{◌≡◌, ℕ, suc, ◌+◌, ◌-◌, ◌^◌, ◌<◌, List, [], ◌∷◌, ◌++◌, length, refl, sym, ap, ◌∙◌, w8, w64, arith, length-append, subst}
+use Rattle.std.proofs.Common.{◌≡◌, suc, ◌+◌, ◌-◌, ◌^◌, ◌<◌, List, [], ◌∷◌, ◌++◌, length, refl, sym, ap, ◌∙◌, w8, w64, arith, length-append, subst}
 use Rattle.std.proofs.raw_atomic.Walks.{proved}
-use seplogic.Ra.Ura.{Ura}
 use base.Fraction.{full_share}
 use base.Logic.{id⊢}
-use base.Fml.{ftrue, fat, flft, flt, froom}
+use base.Fml.{ftrue, flft, froom}
 use mir.Syntax.{ty_int, named}
-use mir.Val.{Val, vunit, vint, vptr}
+use mir.Val.{Val, vunit, vptr}
 use contract.Monad.{fact}
 use contract.Running.{tables}
-use types.Kit.{‵, raw, ◌⊛◌, at_ret, ◌$◌, ◌∵◌, !, qed, done, move, keep, drop, use1, use2, split, join, fsplit, fsplit3, fjoin, feq_i, flt_l, flt_i, rewrite, suffices, frame, group}
-use types.Run.{enter, of_opd, bin, unit_lit, load, init, stop, fld, hop, assigns_last, first, blocks, exec, returns}
+use types.Kit.{‵, raw, ◌⊛◌, at_ret, ◌$◌, ◌∵◌, !, qed, done, move, keep, use1, use2, split, join, fsplit, fsplit3, fjoin, feq_i, flt_l, flt_i, rewrite, suffices, frame, group}
+use types.Run.{enter, of_opd, bin, unit_lit, load, init, stop, fld, assigns_last, first, blocks, exec, returns}
 use types.ByLocal.{alloc_all, pass_all, free_all, look_at, get, through, sets, is, env}
 use types.Part.{whole, sub, look_in}
 use types.SemTy.{cells}
