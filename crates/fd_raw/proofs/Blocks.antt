@@ -72,10 +72,20 @@ module _ {M : Type 1} {𝓤 : Ura M} (𝓛 : Logic 𝓤) (at_mem : Memory → SP
 
     module _ (b o : ℕ) where
       abbrev pub at_gives : Gives.Ghost
-      at_gives = (((κ, tt), (q, tt), tt, (record { ref_ptr = p; now = a }, (block_ptr b o, (n, (1, tt)))), (vptr p.0 p.1 ∷ [], (vptr b o ∷ [], (vint w64 n ∷ [], (vint w64 1 ∷ [], tt))))), bytes_type n)
+      at_gives = (
+        (
+          (κ, tt),
+          (q, tt),
+          tt,
+          (record { ref_ptr = p; now = a }, (block_ptr b o, (n, (1, tt)))),
+          (vptr p.0 p.1 ∷ [], (vptr b o ∷ [], (vint w64 n ∷ [], (vint w64 1 ∷ [], tt)))),
+        ),
+        bytes_type n,
+      )
 
       pub gives_goes : n < 2 ^ 63
-          → ent 𝓤 (sep 𝓤 (H.room (bytes_type n) b o) (sep 𝓤 (sem 𝓛 (ghosts.dealloc_token a (bytes_type n) (block_ptr b o))) (sep 𝓤 (sem 𝓛 (hidden_shr heap.the_row κ a p.0 p.1)) (A.lft κ q)))) (Gives.pre at_gives)
+          → ent 𝓤 (sep 𝓤 (H.room (bytes_type n) b o) (sep 𝓤 (sem 𝓛 (ghosts.dealloc_token a (bytes_type n) (block_ptr b o)))
+          (sep 𝓤 (sem 𝓛 (hidden_shr heap.the_row κ a p.0 p.1)) (A.lft κ q)))) (Gives.pre at_gives)
       gives_goes small =
           let Asked = HasLayout (bytes_type n) n 1 in
           qed 𝓛 (‵ (froom (bytes_type n) b o) ∷ ‵ (ghosts.dealloc_token a (bytes_type n) (block_ptr b o)) ∷ ‵ (hidden_shr heap.the_row κ a p.0 p.1) ∷ ‵ (flft κ q) ∷ []) ∵ fjoin ! $

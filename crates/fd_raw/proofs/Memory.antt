@@ -42,7 +42,8 @@ module _ {M : Type 1} {𝓤 : Ura M} (𝓛 : Logic 𝓤) (b : ℕ) where
   pub freed : (xs : List ℕ) (n o at : ℕ) → at ≡ length xs + o
       → ent 𝓤 (sep 𝓤 (sem 𝓛 (cells (mem u8) xs b o)) (H.room (bytes_type n) b at)) (H.room (bytes_type (length xs + n)) b o)
   freed [] n o at e =
-      qed 𝓛 (‵ ftrue ∷ ‵ (froom (bytes_type n) b at) ∷ []) ∵ drop ! $ rewrite ! 0 (λ k. ‵ (froom (bytes_type n) b k)) {x = o} (omega arith) refl $ rewrite ! 0 (λ k. ‵ (froom (bytes_type k) b o)) (sym (zero-add n)) refl $ done !
+      qed 𝓛 (‵ ftrue ∷ ‵ (froom (bytes_type n) b at) ∷ []) ∵ drop ! $ rewrite ! 0 (λ k. ‵ (froom (bytes_type n) b k)) {x = o} (omega arith) refl $
+      rewrite ! 0 (λ k. ‵ (froom (bytes_type k) b o)) (sym (zero-add n)) refl $ done !
   freed (y ∷ ys) n o at e =
       qed 𝓛 (‵ (cells (mem u8) (y ∷ ys) b o) ∷ ‵ (froom (bytes_type n) b at) ∷ []) ∵ fsplit ! $ move ! (1 ∷ 2 ∷ []) $
       let counted : suc (length ys + n) ≡ suc (length ys) + n = omega arith in

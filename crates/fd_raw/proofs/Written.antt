@@ -1,5 +1,6 @@
 -- What a list is once a part of it is written anew.
-use Rattle.std.proofs.Common.{◌≡◌, ℕ, ◌+◌, ◌-◌, ◌≤◌, List, [], ◌++◌, length, take, drop, slice_range, replicate, refl, sym, ap, ◌∙◌, arith, take_at, length-append, length-take, length-drop, drop_of_length-le, append-nil, take-add}
+use Rattle.std.proofs.Common.{◌≡◌, ℕ, ◌+◌, ◌-◌, ◌≤◌, List, [], ◌++◌, length, take, drop, slice_range}
+use Rattle.std.proofs.Common.{replicate, refl, sym, ap, ◌∙◌, arith, take_at, length-append, length-take, length-drop, drop_of_length-le, append-nil, take-add}
 use Rattle.std.proofs.lemmas.List.{length-replicate}
 use Rattle.std.specs.List.{refill}
 use Rattle.fd_raw.specs.Written.{written}

@@ -35,7 +35,8 @@ use mir.Syntax.{Body, named}
 use mir.Val.{Val, vstruct, vcons, vnil}
 use prog.Wp.{Wp, after_seq, at_return}
 use types.ByLocal.{alloc_all, pass_all, free_all, look_at, get, get_in, get_tag, sets, sets_last, lands_as, env}
-use types.Kit.{Post as After, any_q, Sq, prop, ‵, raw, ◌⊛◌, later, await, at_ret, ◌$◌, ◌∵◌, !, qed, done, move, keep, use1, use2, split, join, fsplit, fjoin, fpack, feq_i, flt_i, rewrite, suffices, frame}
+use types.Kit.{Post as After, any_q, Sq, prop, ‵, raw, ◌⊛◌, later, await, at_ret, ◌$◌, ◌∵◌, !, qed}
+use types.Kit.{done, move, keep, use1, use2, split, join, fsplit, fjoin, fpack, feq_i, flt_i, rewrite, suffices, frame}
 use types.Match.{live, vrt, in_variant}
 use types.Part.{whole, agg}
 use types.Run.{enter, of_opd, lit, stop, fld, and_then, no_more, first, exec, switches_on, returns}

@@ -43,14 +43,20 @@ stayed = (stay_dropped (RefOf (0 ∷ []) tt (plain (λ _. heap.the_row)) (λ _. 
 pub deallocate_spec : {M : Type 1} → statement M
 deallocate_spec 𝓤 𝓛 𝓜 𝓡 wired =
     let c = f.clauses 𝓛 𝓜.mem 𝓡.returns in let W = walk_of 𝓛 f.ended stayed c in let 𝓣 = tables 𝓤 𝓛.H 𝓜 𝓡 𝓡.env in
-    proved 𝓛 f.ended stayed c 𝓜 𝓡
-    (Goes-dropped 𝓛 1 (RefOf (0 ∷ []) tt (plain (λ _. heap.the_row)) (λ _. tt)) yes (λ κs x w. refl), (Goes-dropped 𝓛 1 (plain (λ _. usize)) yes (λ κs x w. refl), (Goes-blank 𝓛 1 (plain (λ _. R)) yes (λ κs x w. tt), tt)))
+    proved 𝓛 f.ended stayed c 𝓜 𝓡 (
+      Goes-dropped 𝓛 1 (RefOf (0 ∷ []) tt (plain (λ _. heap.the_row)) (λ _. tt)) yes (λ κs x w. refl),
+      (
+        Goes-dropped 𝓛 1 (plain (λ _. usize)) yes (λ κs x w. refl),
+        (Goes-blank 𝓛 1 (plain (λ _. R)) yes (λ κs x w. tt), tt),
+      ),
+    )
     f.Key.name code.function (code.unfolded 𝓤 𝓛.H 𝓜 𝓡 wired)
     (λ κs. (shr_vals, (uint_vals w64, ((λ h. lowers.lowered h ∷ []), tt)))) (λ κs. (shr_Tells (named 0) κs.0 heap.the_row, (uint_Tells w64, (lowers.val_is, tt)))) (λ κs qs bounds a _ are.
     let κ = κs.0 in let q = qs.0 in let p = a.0.ref_ptr in let len = a.1.0 in let h = a.1.1.0 in let vs = lowers.lowered h ∷ [] in
     let y : W.Ghost = ((κs, qs, bounds, a, (shr_vals a.0, (uint_vals w64 len, (vs, tt)))), tt) in
     let Asked : Type 0 = (length h.bytes + h.room ≡ len) × (h.alloc ≡ a.0.now) in
-    qed 𝓛 (((‵ (flft κ q) ⊛ ‵ ftrue) ⊛ ‵ ((ShrRef (named 0) κ heap.the_row).own_val a.0 (shr_vals a.0)) ⊛ ‵ (usize.own_val len (uint_vals w64 len)) ⊛ ‵ (R.own_val h vs) ⊛ ‵ ftrue) ∷ raw (fact 𝓤 Asked) ∷ []) ∵
+    qed 𝓛 (((‵ (flft κ q) ⊛ ‵ ftrue) ⊛ ‵ ((ShrRef (named 0) κ heap.the_row).own_val a.0 (shr_vals a.0))
+    ⊛ ‵ (usize.own_val len (uint_vals w64 len)) ⊛ ‵ (R.own_val h vs) ⊛ ‵ ftrue) ∷ raw (fact 𝓤 Asked) ∷ []) ∵
     move ! (1 ∷ []) $ heard ! Asked (λ asked. split ! $ split ! $ move ! (2 ∷ []) $ split ! $ move ! (1 ∷ []) $ split ! $ move ! (1 ∷ []) $ split ! $
     move ! (3 ∷ []) $ fsplit ! $ keep ! (2 ∷ 1 ∷ 5 ∷ []) $ fsplit ! $ keep ! (1 ∷ 2 ∷ 3 ∷ []) $
     -- [the block; the `&`; the token]

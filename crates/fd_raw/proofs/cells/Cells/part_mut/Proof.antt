@@ -1,5 +1,6 @@
 -- `part_mut` lends some of the bytes, and the block follows them. Assumes `Logic`.
-use Rattle.std.proofs.Common.{◌≡◌, ℕ, ◌+◌, ◌^◌, ◌<◌, ◌≤◌, List, [], ◌∷◌, ◌++◌, length, take, drop, slice_range, refl, sym, ap, subst, ◌∙◌, w64, arith, take-append-drop, length-append, length-take, length-drop}
+use Rattle.std.proofs.Common.{◌≡◌, ℕ, ◌+◌, ◌^◌, ◌<◌, ◌≤◌, List, [], ◌∷◌, ◌++◌, length, take}
+use Rattle.std.proofs.Common.{drop, slice_range, refl, sym, ap, subst, ◌∙◌, w64, arith, take-append-drop, length-append, length-take, length-drop}
 use Rattle.std.proofs.lemmas.List.Folds.{drop_split}
 use Rattle.std.proofs.raw_atomic.Walks.{proved}
 use Rattle.std.specs.List.{refill}
@@ -12,7 +13,8 @@ use mir.Val.{Val}
 use contract.Monad.{fact}
 use contract.Running.{tables}
 use types.Logic.{Logic, sem}
-use types.Kit.{‵, raw, ◌⊛◌, some, later, await, pick, at_ret, ◌$◌, ◌∵◌, !, qed, done, move, keep, use1, use2, split, split3, join, fsplit, fsplit3, fjoin, fjoin3, fpack, flt_l, flt_i, rewrite, suffices, frame, group}
+use types.Kit.{‵, raw, ◌⊛◌, some, later, await, pick, at_ret, ◌$◌, ◌∵◌, !, qed, done, move, keep}
+use types.Kit.{use1, use2, split, split3, join, fsplit, fsplit3, fjoin, fjoin3, fpack, flt_l, flt_i, rewrite, suffices, frame, group}
 use types.Part.{whole, sub, look_in, agg}
 use types.Run.{enter, of_opd, bin, load, stop, fld, and_then, no_more, first, blocks, exec, returns}
 use types.ByLocal.{alloc_all, pass_all, free_all, look_at, get, through, sets, sets_last, is, env}
@@ -86,13 +88,15 @@ module _ {M : Type 1} {𝓤 : Ura M} (𝓛 : Logic 𝓤) (h : Cells) (us : List 
 pub part_mut_spec : {M : Type 1} → statement M
 part_mut_spec 𝓤 𝓛 𝓜 𝓡 wired =
     let c = f.clauses 𝓛 𝓜.mem 𝓡.returns in let W = walk_of 𝓛 f.ended stayed c in let 𝓣 = tables 𝓤 𝓛.H 𝓜 𝓡 𝓡.env in
-    proved 𝓛 f.ended stayed c 𝓜 𝓡 (Goes-spent_ref 𝓛 1 (0 ∷ []) tt (plain (λ _. R)), (Goes-dropped 𝓛 1 (plain (λ _. usize)) yes (λ κs x w. refl), (Goes-dropped 𝓛 1 (plain (λ _. usize)) yes (λ κs x w. refl), tt)))
+    proved 𝓛 f.ended stayed c 𝓜 𝓡
+    (Goes-spent_ref 𝓛 1 (0 ∷ []) tt (plain (λ _. R)), (Goes-dropped 𝓛 1 (plain (λ _. usize)) yes (λ κs x w. refl), (Goes-dropped 𝓛 1 (plain (λ _. usize)) yes (λ κs x w. refl), tt)))
     f.Key.name code.function (code.unfolded 𝓤 𝓛.H 𝓜 𝓡 wired)
     (λ κs. (mut_vals, (uint_vals w64, (uint_vals w64, tt)))) (λ κs. (mut_Tells (named 0) κs.0 R, (uint_Tells w64, (uint_Tells w64, tt)))) (λ κs qs bounds a _ are.
     let κ = κs.0 in let q = qs.0 in let b = a.0.ref_ptr.0 in let o = a.0.ref_ptr.1 in let γ = a.0.ghost_name in let h = a.0.now in let vs = mut_vals a.0 in let at = a.1.0 in let len = a.1.1.0 in
     let y : W.Ghost = ((κs, qs, bounds, a, (vs, (uint_vals w64 at, (uint_vals w64 len, tt)))), tt) in
     let Asked : Type 0 = at + len ≤ length h.bytes in
-    qed 𝓛 (((‵ (flft κ q) ⊛ ‵ ftrue) ⊛ ‵ ((MutRef (named 0) κ R).own_val a.0 vs) ⊛ ‵ (usize.own_val at (uint_vals w64 at)) ⊛ ‵ (usize.own_val len (uint_vals w64 len)) ⊛ ‵ ftrue) ∷ raw (fact 𝓤 Asked) ∷ []) ∵
+    qed 𝓛 (((‵ (flft κ q) ⊛ ‵ ftrue) ⊛ ‵ ((MutRef (named 0) κ R).own_val a.0 vs)
+    ⊛ ‵ (usize.own_val at (uint_vals w64 at)) ⊛ ‵ (usize.own_val len (uint_vals w64 len)) ⊛ ‵ ftrue) ∷ raw (fact 𝓤 Asked) ∷ []) ∵
     move ! (1 ∷ []) $ heard ! Asked (λ within. split ! $ split ! $ move ! (2 ∷ []) $ split ! $ keep ! (0 ∷ 2 ∷ []) $
     -- [self; the token]
     enter ! _ _ _ _ _ $ alloc_all ! (λ l. pass_all ! refl ((tt, tt), ((tt, record { fits = are.1.0.1 }), ((tt, record { fits = are.1.1.0.1 }), tt))) $
@@ -105,7 +109,8 @@ part_mut_spec 𝓤 𝓛 𝓜 𝓡 wired =
     let long : length mid ≡ len = part-long xs at len within in
     let fits : length mid < 2 ^ 64 = omega (arith, long, within) in let room : Room u8 (length mid) = (fits, omega (arith, long, within)) in
     rewrite ! 0 (λ l. ‵ (cells (mem u8) l b' o')) (sym (take-append-drop at xs) ∙ ap (λ l. front ++ l) (drop_split xs at (at + len) (omega arith))) refl $
-    use1 𝓛 (‵ (cells (mem u8) front b' o') ⊛ ‵ (cells (mem u8) (mid ++ rest) b' (at + o'))) (cut 𝓛 b' front (mid ++ rest) o' (at + o') (omega (arith, length-take at xs, within))) $ split ! $ move ! (1 ∷ []) $
+    use1 𝓛 (‵ (cells (mem u8) front b' o') ⊛ ‵ (cells (mem u8) (mid ++ rest) b' (at + o'))) (cut 𝓛 b' front (mid ++ rest) o' (at + o') (omega (arith, length-take at xs, within))) $
+    split ! $ move ! (1 ∷ []) $
     use1 𝓛 (‵ (cells (mem u8) mid b' (at + o')) ⊛ ‵ (cells (mem u8) rest b' (at + len + o'))) (cut 𝓛 b' mid rest (at + o') (at + len + o') (omega (arith, long))) $ split ! $
     rewrite ! 5 Cell word refl $
     -- [the part; the bytes behind it; those before it; the room and the right to free; what the fields own; the struct's cell; the open borrow, in three entries]

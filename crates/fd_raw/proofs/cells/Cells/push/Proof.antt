@@ -46,7 +46,8 @@ push_spec 𝓤 𝓛 𝓜 𝓡 wired =
     let y : W.Ghost = ((κs, qs, bounds, a, (vs, (uint_vals w64 len, (uint_vals w8 byte, tt)))), tt) in
     let new = record h { bytes = h.bytes ++ byte ∷ []; room = h.room - 1 } in
     let Asked : Type 0 = (len ≡ length h.bytes) × (0 < h.room) in
-    qed 𝓛 (((‵ (flft κs.0 qs.0) ⊛ ‵ ftrue) ⊛ ‵ ((MutRef (named 0) κs.0 R).own_val a.0 vs) ⊛ ‵ (usize.own_val len (uint_vals w64 len)) ⊛ ‵ (u8.own_val byte (uint_vals w8 byte)) ⊛ ‵ ftrue) ∷ raw (fact 𝓤 Asked) ∷ []) ∵
+    qed 𝓛 (((‵ (flft κs.0 qs.0) ⊛ ‵ ftrue) ⊛ ‵ ((MutRef (named 0) κs.0 R).own_val a.0 vs)
+    ⊛ ‵ (usize.own_val len (uint_vals w64 len)) ⊛ ‵ (u8.own_val byte (uint_vals w8 byte)) ⊛ ‵ ftrue) ∷ raw (fact 𝓤 Asked) ∷ []) ∵
     move ! (1 ∷ []) $ heard ! Asked (λ asked. split ! $ split ! $ move ! (2 ∷ []) $ split ! $ keep ! (0 ∷ 2 ∷ []) $
     -- [self; the token]
     enter ! _ _ _ _ _ $ alloc_all ! (λ l. pass_all ! refl ((tt, tt), ((tt, record { fits = are.1.0.1 }), ((tt, record { fits = are.1.1.0.1 }), tt))) $
