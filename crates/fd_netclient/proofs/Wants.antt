@@ -1,10 +1,11 @@
--- What the machine wants comes next in a client run.
-use Rattle.std.proofs.Common.{◌≡◌, ℕ, ◌≤◌, List, [], ◌∷◌, ◌++◌, Option, refl, sym, subst}
+-- What the machine wants comes next in a client run, and is a step of it.
+use Rattle.std.proofs.Common.{◌≡◌, ℕ, ◌≤◌, List, [], ◌∷◌, ◌++◌, drop, Option, refl, sym, ◌∙◌, ap, subst}
 use Rattle.fd_site.specs.Trace.{LinkEvent, Sent}
 use Rattle.fd_kdh.specs.declared.header.Header.{Header}
 use Rattle.fd_netclient.specs.Datagram.{chunks, datagram}
-use Rattle.fd_netclient.specs.Trace.{Patience, Outcome, Done, TimedOut, IsClientRun, port_to}
-use Rattle.fd_netclient.specs.Machine.{Place, State, At, Ended, IsNext, step_at, Goes, Passes, ComesNext, start, port_of, want_at, want_of}
+use Rattle.fd_netclient.specs.Trace.{Patience, Outcome, Done, TimedOut, IsClientRun, IsPolled, port_to}
+use Rattle.fd_netclient.specs.Machine.{Place, State, At, Ended, IsNext, after_poll, after_sent, step_at, on_poll, on_sent, Goes, Passes, ComesNext, start, port_of, want_at, want_of}
+use Rattle.fd_netclient.specs.declared.client.Want.TheVariants as want
 use Rattle.fd_netclient.proofs.Machines.{machine_completes}
 use Rattle.fd_netclient.proofs.Runs.{runs_are_passes}
 
@@ -21,6 +22,38 @@ module _ (dump : List ℕ) (h : Header) (patience : Patience) where
   passes_end from [] session outcome passes = subst (λ (s : State). Goes dump h patience s [] outcome) (sym passes) (refl, refl)
   passes_end (Ended at outcome_at) (e ∷ trace) session outcome passes = absurd passes
   passes_end (At p) (e ∷ trace) session outcome passes = (passes.0, passes_end (step_at dump h patience p p.unsent e) trace session outcome passes.1)
+
+  -- a datagram or a poll that is wanted is a step
+  module _ (from : State) (trace : List LinkEvent) where
+    sent_at : (p : Place) (s : ℕ) (unsent : List ℕ) → p.unsent ≡ unsent → Passes dump h patience from trace (At p) → want_at unsent ≡ want.Send s
+        → Passes dump h patience from (trace ++ Sent (port_to p.session) (datagram dump h s) ∷ []) (after_sent p (drop 1 p.unsent))
+    sent_at p s [] is passes wanted = absurd (cc)
+    sent_at p s (n ∷ unsent) is passes wanted =
+        let same : n ≡ s = cc in
+        let e : LinkEvent = Sent (port_to p.session) (datagram dump h s) in
+        let first : p.unsent ≡ s ∷ unsent = is ∙ ap (λ m. m ∷ unsent) same in
+        subst (λ (u : List ℕ). Passes dump h patience from (trace ++ e ∷ []) (after_sent p u)) (sym (ap (drop 1) first))
+        (subst (λ (u : List ℕ). Passes dump h patience from (trace ++ e ∷ []) (step_at dump h patience p u e)) first
+        (passes_more from trace p e passes (subst (λ (u : List ℕ). IsNext dump h patience p u e) (sym first) refl)))
+
+    pub sent_step : (to : State) (s : ℕ) → Passes dump h patience from trace to → want_of to ≡ want.Send s
+        → Passes dump h patience from (trace ++ Sent (port_of to) (datagram dump h s) ∷ []) (on_sent to)
+    sent_step (At p) s passes wanted = sent_at p s p.unsent refl passes wanted
+    sent_step (Ended session Done) s passes wanted = absurd (cc)
+    sent_step (Ended session (TimedOut n)) s passes wanted = absurd (cc)
+
+    polled_at : (p : Place) (e : LinkEvent) (unsent : List ℕ) → p.unsent ≡ unsent → Passes dump h patience from trace (At p) → want_at unsent ≡ want.Poll → IsPolled e
+        → Passes dump h patience from (trace ++ e ∷ []) (after_poll patience p e)
+    polled_at p e [] is passes wanted polled =
+        subst (λ (u : List ℕ). Passes dump h patience from (trace ++ e ∷ []) (step_at dump h patience p u e)) is
+        (passes_more from trace p e passes (subst (λ (u : List ℕ). IsNext dump h patience p u e) (sym is) polled))
+    polled_at p e (n ∷ unsent) is passes wanted polled = absurd (cc)
+
+    pub polled_step : (to : State) (e : LinkEvent) → Passes dump h patience from trace to → want_of to ≡ want.Poll → IsPolled e
+        → Passes dump h patience from (trace ++ e ∷ []) (on_poll patience e to)
+    polled_step (At p) e passes wanted polled = polled_at p e p.unsent refl passes wanted polled
+    polled_step (Ended session Done) e passes wanted polled = absurd (cc)
+    polled_step (Ended session (TimedOut n)) e passes wanted polled = absurd (cc)
 
   module _ (some : 1 ≤ patience.polls) (trace : List LinkEvent) where
     abbrev begin_ : State

@@ -1,5 +1,5 @@
 -- What the fields of a client mean.
-use Rattle.std.specs.Prelude.{ℕ, ◌<◌, ◌≤◌, ◌≡◌, List, [], length, slice_get, Option, Some}
+use Rattle.std.specs.Prelude.{ℕ, ◌≤◌, ◌≡◌, List, [], slice_get, Option, Some}
 use Rattle.fd_netclient.specs.declared.client.Ending.{Ending}
 use Rattle.fd_netclient.specs.declared.client.Ending.TheVariants.{Running, AllDone, OutAt}
 use Rattle.fd_netclient.specs.declared.limits.Limits.{Limits}
@@ -33,15 +33,6 @@ state_by (OutAt s) session unsent unacknowledged polls rounds later = Ended sess
 abbrev pub settled : Patience → State → State
 settled patience (At p) = polling patience p.session p.unacknowledged p.polls p.rounds p.later
 settled patience (Ended session outcome) = Ended session outcome
-
--- a datagram is wanted, and a poll is
-abbrev pub IsSending : State → Type 0
-IsSending (At p) = 0 < length p.unsent
-IsSending (Ended session outcome) = ⊥
-
-abbrev pub IsPolling : State → Type 0
-IsPolling (At p) = p.unsent ≡ []
-IsPolling (Ended session outcome) = ⊥
 
 -- all numbers of the batch were acknowledged; or some weren't, the least of them this one, and no poll is left
 abbrev pub HasAll : State → Type 0

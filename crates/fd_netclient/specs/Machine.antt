@@ -61,6 +61,13 @@ want_of (At p) = want_at p.unsent
 want_of (Ended session Done) = want.Done
 want_of (Ended session (TimedOut s)) = want.TimedOut s
 
+-- a datagram is wanted, of whichever number
+abbrev pub IsSend : Want → Type 0
+IsSend (want.Send s) = Unit {0}
+IsSend want.Poll = ⊥
+IsSend want.Done = ⊥
+IsSend (want.TimedOut s) = ⊥
+
 -- the port that a client's next datagram goes to
 abbrev pub port_of : State → ℕ
 port_of (At p) = port_to p.session

@@ -1,8 +1,9 @@
 //! The client as a machine: what it wants next, and what it does with what a poll brings.
 
 ghost use Rattle.std.specs.Prelude.{◌≡◌, ◌≤◌, ◌^◌};
-ghost use Rattle.fd_netclient.specs.Client.{HasAll, IsOver, IsPatient, IsPolling, IsSending, patience_of, settled};
-ghost use Rattle.fd_netclient.specs.Machine.{on_poll, on_sent, port_of, start, want_of};
+ghost use Rattle.fd_netclient.specs.Client.{HasAll, IsOver, IsPatient, patience_of, settled};
+ghost use Rattle.fd_netclient.specs.Machine.{IsSend, on_poll, on_sent, port_of, start, want_of};
+ghost use Rattle.fd_netclient.specs.declared.client.Want.TheVariants as want;
 ghost use Rattle.fd_site.specs.Trace.{Got, Silent};
 
 use crate::acknowledged::{acknowledged_by, session_after};
@@ -112,15 +113,15 @@ impl Client {
 
     /// The datagram that was wanted was sent.
     pub fn sent(&mut self)
-        requires { IsSending self.old.state }
+        requires { IsSend (want_of self.old.state) }
         ensures { self.new ≡ record self.old { state = on_sent self.old.state } }
     {
         self.unsent.remove_least();
     }
 
-    /// A poll brought a datagram from this port of the server.
+    /// A poll, which was wanted, brought a datagram from this port of the server.
     pub fn got(&mut self, port: u16, bytes: &[u8])
-        requires { IsPolling self.old.state }
+        requires { want_of self.old.state ≡ want.Poll }
         ensures { self.new ≡ record self.old { state = on_poll self.old.patience (Got port bytes.now) self.old.state } }
     {
         if let Some(number) = acknowledged_by(self.session, port, bytes) {
@@ -131,9 +132,9 @@ impl Client {
         self.settle();
     }
 
-    /// A poll brought nothing.
+    /// A poll, which was wanted, brought nothing.
     pub fn silent(&mut self)
-        requires { IsPolling self.old.state }
+        requires { want_of self.old.state ≡ want.Poll }
         ensures { self.new ≡ record self.old { state = on_poll self.old.patience Silent self.old.state } }
     {
         self.polls = self.polls.saturating_sub(1);
