@@ -11,6 +11,7 @@ use Rattle.fd_walk.specs.Directory.{DirectoryForm, directory_bytes, directory_en
 use Rattle.fd_pte.specs.Entry.{bytes_under}
 use Rattle.fd_mini.specs.declared.header.MiniHeader.{MiniHeader}
 use Rattle.fd_mini.specs.Page as mini
+use Rattle.fd_mini.proofs.Layouts.{length-page_of}
 use Rattle.fd_mini.specs.Places.{rounded_up}
 use Rattle.fd_image.specs.Image.{MachineImage, IsValid}
 use Rattle.fd_image.specs.Image.{is_whole_pages}
@@ -29,18 +30,6 @@ use Rattle.fd_dump.specs.Sections.{bytes_of, dumped_bytes}
 use Rattle.fd_dump.proofs.Limits.{pages_few, small, window_divided}
 use Rattle.fd_dump.proofs.Memory.{memory_by_page}
 use Rattle.fd_dump.proofs.Directory.{whole_of}
-
-front_length : (arch : Arch) (h : MiniHeader) → h.arch ≡ arch → length (mini.front_of h) ≤ 4096
-front_length Amd64 h is = rw is (lit≤ tt)
-front_length Arm64 h is = rw is (lit≤ tt)
-front_length Riscv h is = rw is (lit≤ tt)
-
--- a header page has 4096 bytes
-pub length-page_of : (h : MiniHeader) → length (mini.page_of h) ≡ 4096
-unfolding mini.page_of
-length-page_of h =
-    let missing : ℕ = 4096 - length (mini.front_of h) in
-    omega (arith, length-append (mini.front_of h) (replicate missing 0), length-replicate {A = ℕ} missing 0, front_length h.arch h refl)
 
 -- a filled section has its size, rounded up
 pub length-filled : (bytes : List ℕ) → length (filled bytes) ≡ rounded_up (length bytes)

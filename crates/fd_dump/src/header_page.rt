@@ -9,7 +9,7 @@ ghost use Rattle.fd_dump.specs.Minidump.{entry_count, mini_header_of};
 
 use fd_bytes::Arch;
 use fd_image::Image;
-use fd_mini::MiniHeader;
+use fd_mini::{MiniHeader, rounded_up};
 use fd_pte::directory_height;
 
 /// The fields of the header page of an image whose pages have so many bits.
@@ -24,13 +24,13 @@ pub(crate) fn mini_header(image: &Image, bits: u64) -> MiniHeader
         arch,
         version: arch.profile().minidump_version,
         msgbufsize: image.texts().msgbuf.len() as u32,
-        bitmapsize: rounded_up(bits.div_ceil(8)),
+        bitmapsize: section_size(bits.div_ceil(8)),
         pmapsize: directory_size(image),
         kernbase: windows.kernbase,
         dmapphys: windows.dmapphys,
         dmapbase: windows.dmapbase,
         dmapend: windows.dmapend,
-        dumpavailsize: rounded_up(16 * image.avail().len() as u64 + 16),
+        dumpavailsize: section_size(16 * image.avail().len() as u64 + 16),
         flags: 0,
     }
 }
@@ -50,9 +50,9 @@ fn entry_span(arch: Arch) -> u64
 }
 
 /// The size of a section that has this many bytes.
-fn rounded_up(size: u64) -> u32
+fn section_size(size: u64) -> u32
     requires { size ≤ 2 ^ 31 }
     ensures { result ≡ rounded_up size }
 {
-    (size.div_ceil(4096) * 4096) as u32
+    rounded_up(size) as u32
 }

@@ -1,10 +1,10 @@
 //! The sections of a minidump, each appended to those before it and filled with zeros to a multiple of 4096 bytes.
-ghost use Rattle.std.specs.Prelude.{◌≡◌, ◌+◌, ◌-◌, ◌*◌, ◌/◌, ◌≤◌, ◌<◌, ◌^◌, ◌++◌, replicate, map, length, slice_index, OnOk};
+ghost use Rattle.std.specs.Prelude.{◌≡◌, ◌+◌, ◌-◌, ◌*◌, ◌/◌, ◌≤◌, ◌<◌, ◌^◌, ◌++◌, replicate, map, length, slice_index, IsTrue, OnOk};
 ghost use Rattle.std.specs.Int.{w64, to_le_bytes, div_ceil};
 ghost use Rattle.std.specs.List.{flat_map, range_with_len};
 ghost use Rattle.fd_bitmap.specs.Bits.{byte_at};
 ghost use Rattle.fd_bitmap.specs.Pages.{pages_of};
-ghost use Rattle.fd_mini.specs.Layout.{layout_of};
+ghost use Rattle.fd_mini.specs.Layout.{has_version};
 ghost use Rattle.fd_mini.specs.Page as mini;
 ghost use Rattle.fd_mini.specs.Places.{rounded_up};
 ghost use Rattle.fd_dump.specs.Dumped.{dumped_bits, pages_with_bits};
@@ -31,7 +31,7 @@ fn put_fill(out: &mut Vec<u8>, size: usize) -> Result<(), AllocError>
 
 /// Appends the header page.
 pub(crate) fn put_header(out: &mut Vec<u8>, header: &MiniHeader) -> Result<(), AllocError>
-    requires { header.now.version ≡ (layout_of header.now.arch).version }
+    requires { IsTrue (has_version header.now.arch header.now.version) }
     ensures { OnOk result (out.new.items ≡ out.old.items ++ mini.page_of header.now) }
 {
     let mut page = [0; 4096];

@@ -114,15 +114,6 @@ front_more byte_at va at count old new rest front inside more =
           ∙ drop-drop count at old;
     }
 
--- a read that came to its end
-pub whole_read :
-    (byte_at : ℕ → Result ℕ AddressFault) (va at : ℕ) (old new : List ℕ) (done : Unit {0}) → IsFront byte_at va old new at → length new ≡ length old
-    → length new ≤ at → at ≤ length new → va + length old ≤ 2 ^ 64 → IsRead (kernel_bytes byte_at va (length old)) old new (Ok done)
-whole_read byte_at va at old new done front same end inside low =
-    let all : kernel_bytes byte_at va (length old) ≡ record { bytes = new; fault = None } =
-    not_past byte_at va (length old) low ∙ ap (bytes_from byte_at va) (omega arith) ∙ front.bytes ∙ ap (λ (l : List ℕ). record { bytes = l; fault = None }) (take_all at new end) in
-    (ap (λ (k : KernelBytes). k.fault) all, sym (ap (λ (k : KernelBytes). k.bytes) all))
-
 -- a read that ended at an address without a byte, or at a fault of the site
 pub ended_read :
     (byte_at : ℕ → Result ℕ AddressFault) (va at : ℕ) (old new rest : List ℕ) (fault : ReadFault) → IsFront byte_at va old new at → length new ≡ length old

@@ -103,14 +103,6 @@ by_window f s va i kind is entry within =
     by_window_here f s (va + i) kind (still_by_window h va i is within)
     (entry ∙ ap (λ n. kind_of h.arch (u64_le_at f ((places_of h).directory + 8 * n)) (directory_height_of h.arch)) (sym same))
 
--- the addresses of a leaf of the directory
-pub leaf_next :
-    (f : List ℕ) (s : Sections) (va i address : ℕ) → s.header.kernbase ≤ va → i < unit_of s.header - unit_offset s.header va
-    → by_entry f s (va + i) (Leaf address) ≡ Ok (address + unit_offset s.header va + i)
-leaf_next f s va i address low within =
-    let next = next_offset s.header va i low within in
-    ap (λ n. Ok n) (omega arith)
-
 -- the addresses of a page that a table's entry maps
 pub page_next :
     (f : List ℕ) (arch : Arch) (va i place address : ℕ) → kind_of arch (table_entry f place va) 0 ≡ Leaf address → i < 4096 - va % 4096

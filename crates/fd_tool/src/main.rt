@@ -15,12 +15,11 @@ use fd_cli::{Invocation, Refusal, crashway, read_invocation, status};
 use fd_os::{DirSite, StdSink, hold_standard, say};
 use fd_site::{Link, NoNet, Ports, Sink, Site};
 use std::alloc::Global;
-use std::env;
 use std::fs::File;
-use std::io;
 use std::io::ErrorKind;
 use std::process::ExitCode;
 use std::rt::{Env, Files};
+use std::{env, io};
 
 // What the program's words name. Words of which one isn't UTF-8 name nothing.
 fn invocation<R: Env + AllocGlobal>(rt: &R) -> io::Result<Option<Invocation>> {

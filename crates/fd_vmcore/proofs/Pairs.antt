@@ -13,10 +13,6 @@ range_more : (index count : ℕ) → index < count → range_with_len index (cou
 range_more index count below =
     ap (range_with_len index) (let e : count - index ≡ suc (count - (index + 1)) = omega arith in e)
 
-pub rest_all : (s : List ℕ) (index count : ℕ) → count ≤ index → rest s index count ≡ []
-rest_all s index count past =
-    ap (λ n. take_while goes_on (map (pair_at s) (range_with_len index n))) (let e : count - index ≡ 0 = omega arith in e)
-
 rest_next : (s : List ℕ) (index count : ℕ) → index < count → rest s index count ≡ take_while goes_on (pair_at s index ∷ map (pair_at s) (range_with_len (index + 1) (count - (index + 1))))
 rest_next s index count below = ap (λ l. take_while goes_on (map (pair_at s) l)) (range_more index count below)
 

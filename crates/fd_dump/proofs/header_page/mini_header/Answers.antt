@@ -9,11 +9,11 @@ overflow_cast-result c =
     let limits = small c.args.image.now c.texts.ensures.valid in
     omega arith
 
-pub rounded_up-requires : goal.rounded_up-requires
-rounded_up-requires c = omega (arith, pages_few c.args.image.now c.arch-arch.ensures.valid)
+pub section_size-requires : goal.section_size-requires
+section_size-requires c = omega (arith, pages_few c.args.image.now c.arch-arch.ensures.valid)
 
-pub rounded_up-requires-2 : goal.rounded_up-requires-2
-rounded_up-requires-2 c =
+pub section_size-requires-2 : goal.section_size-requires-2
+section_size-requires-2 c =
     let same = ap length c.avail.ensures.value in
     let limits = small c.args.image.now c.avail.ensures.valid in
     omega arith

@@ -7,7 +7,11 @@ use Rattle.fd_dump.specs.Minidump.{filled, avail_bytes, bitmap_bytes, directory_
 use Rattle.fd_dump.proofs.Appending.{in_order}
 use Rattle.fd_dump.proofs.Limits.{small, pages_few}
 use Rattle.fd_dump.proofs.Sizes.{length-bits}
+use Rattle.fd_mini.proofs.Layouts.{current_is_known}
 use Rattle.fd_dump.proofs.minidump.minidump.Goals as goal
+
+pub put_header-requires : goal.put_header-requires
+put_header-requires g c = rw c.mini_header-header.ensures (current_is_known c.args.image.now.arch)
 
 pub whole_length-requires : goal.whole_length-requires
 whole_length-requires g c =

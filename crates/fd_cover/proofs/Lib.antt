@@ -1,0 +1,3 @@
+pub mod Adding
+mod Joining
+mod Wholes

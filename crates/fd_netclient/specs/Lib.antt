@@ -1,0 +1,6 @@
+pub mod Client
+pub mod Datagram
+pub mod Heard
+pub mod Machine
+pub mod Marks
+pub mod Trace

@@ -1,0 +1,3 @@
+mod Blocks
+mod Memory
+pub mod Written
