@@ -319,25 +319,24 @@ fn changed_architectures_have_their_reasons(rt: HostRuntime) -> Result<(), Fail>
     check_changed(&rt, alloc, &of_arch(b"riscv64", 2), unknown, 39)
 }
 
-// The small header with other texts.
-fn of_texts(host: &[u8], version: &[u8], panic: &[u8]) -> Header
-    ensures { FitsFields result }
-{
-    Header {
-        hostname: Label::cut(host),
-        versionstring: Label::cut_version(version),
-        panicstring: Label::cut(panic),
-        ..small()
-    }
-}
-
 #[test]
 fn changed_texts_differ_at_their_places(rt: HostRuntime) -> Result<(), Fail> {
     let alloc = rt.alloc();
-    let (host, version, panic) = (b"rv", b"FreeBSD 14", b"test");
-    check_changed(&rt, alloc, &of_texts(b"rw", version, panic), None, 65)?;
-    check_changed(&rt, alloc, &of_texts(host, b"FreeBSD 15", panic), None, 137)?;
-    check_changed(&rt, alloc, &of_texts(host, version, b"text"), None, 322)
+    let host = Header {
+        hostname: Label::cut(b"rw"),
+        ..small()
+    };
+    check_changed(&rt, alloc, &host, None, 65)?;
+    let version = Header {
+        versionstring: Label::cut_version(b"FreeBSD 15"),
+        ..small()
+    };
+    check_changed(&rt, alloc, &version, None, 137)?;
+    let panic = Header {
+        panicstring: Label::cut(b"text"),
+        ..small()
+    };
+    check_changed(&rt, alloc, &panic, None, 322)
 }
 
 #[test]
