@@ -20,6 +20,7 @@ use Rattle.fd_walk.specs.Directory.{DirectoryForm, expanded_leaf, entry_or_expan
 use Rattle.fd_walk.specs.Leaf.{MappedBy, leaf_of_kind, leaf_at, last_table, table_of_kind}
 use Rattle.fd_walk.specs.PageTables.{PageTables, entry_at, kind_of_entry, kind_at}
 use Rattle.fd_walk.proofs.DirectoryEntries.{unit_within}
+use Rattle.fd_walk.proofs.Spans.{entry_at-same}
 use Rattle.fd_walk.proofs.TablePath.{word_under, entry_at-below}
 use Rattle.fd_walk.proofs.Ways.{no_table}
 use Rattle.fd_mini.specs.Places.{places_of}
@@ -37,7 +38,7 @@ use Rattle.fd_way.proofs.Located.{IsDumpedAt, IsNotDumped, located}
 use Rattle.fd_way.proofs.Opening.{sections_of}
 use Rattle.fd_way.proofs.SectionPlaces.{Stands-directory}
 use Rattle.fd_way.proofs.Stands.{Stands, Stands-inner, Stands-piece, u64_le_at-Stands, u64_le_at-within}
-use Rattle.fd_way.proofs.TableEntries.{IsLeafOf, entry_at-same, leaf_at-lowest, leaf_at-no_table, none_below, leaf_below-same, leaf_found, entry_short}
+use Rattle.fd_way.proofs.TableEntries.{IsLeafOf, leaf_at-lowest, leaf_at-no_table, none_below, leaf_below-same, leaf_found, entry_short}
 use Rattle.fd_way.proofs.Units.{some_levels, most_levels, placed_kind, zero_absent, IsUnitLeaf, expanded, unit_start, IsInUnit, in_unit, place_in_leaf}
 
 -- a table that isn't dumped is missing where tables ought to be dumped
@@ -171,7 +172,7 @@ module _ (m : MachineImage) (valid : IsValid m) where
       names_none = absent_names_none (kind_at tables height va) (ap (λ entry. kind_of_entry (kind_of m.arch) height entry) none)
 
       none_at_start : entry_at tables height (start va) ≡ None
-      none_at_start = sym (entry_at-same tables height va (start va) place.same (levels_of m - height - 1) height (omega arith) (omega (arith, some_levels m))) ∙ none
+      none_at_start = sym (entry_at-same tables height va (start va) place.same (levels_of m - height - 1) height (omega (arith, some_levels m)) (omega arith)) ∙ none
 
       same_leaf : leaf_at tables va ≡ leaf_at tables (start va)
       same_leaf =
@@ -223,7 +224,7 @@ module _ (m : MachineImage) (valid : IsValid m) where
     agrees : Agrees va (walk.directory_entry tables (form_of m) (start va))
     agrees =
         let same : entry_at tables height va ≡ entry_at tables height (start va) =
-        entry_at-same tables height va (start va) place.same (levels_of m - height - 1) height (omega arith) (omega (arith, some_levels m)) in
+        entry_at-same tables height va (start va) place.same (levels_of m - height - 1) height (omega (arith, some_levels m)) (omega arith) in
         by_option (entry_at tables height (start va)) same
 
     -- the entry is read in the file
