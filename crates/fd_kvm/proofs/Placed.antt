@@ -1,12 +1,11 @@
 -- Addresses that one entry of the directory maps, or the direct map, stand for physical addresses one after another.
-use Rattle.std.proofs.Common.{lit<, ◌≡◌, ℕ, ◌+◌, ◌-◌, ◌*◌, ◌/◌, ◌%◌, ◌<◌, ◌≤◌, true, false, not, ◌||◌, nat_le, nat_lt, min, inl, inr, List, Some, Result, Ok, Err, sym, ap, ◌∙◌, arith}
+use Rattle.std.proofs.Common.{◌≡◌, ℕ, ◌+◌, ◌-◌, ◌*◌, ◌/◌, ◌%◌, ◌<◌, ◌≤◌, true, false, not, ◌||◌, nat_le, nat_lt, min, inl, inr, List, Some, Result, Ok, Err, sym, ap, ◌∙◌, arith}
 use Rattle.std.proofs.lemmas.Bool.{and_parts, and_from, and_cases, and_left, and_right, or_cases, or_left, or_right, or_parts, not-true, ltb-true, ltb-false, leb-true, leb-false, lt-ltb, le-ltb, lt-leb, le-leb, cases_Bool, cases_lt, both_ways, or_from}
 use Rattle.std.proofs.lemmas.Bool.Decides.{nat_tests}
+use Rattle.std.proofs.lemmas.Nat.{pow_pos}
 use Rattle.fd_bytes.specs.Field.{u64_le_at}
 use Rattle.fd_bytes.specs.declared.arch.Arch.{Arch}
-use Rattle.fd_bytes.specs.declared.arch.Arch.TheVariants.{Amd64, Arm64, Riscv}
 use Rattle.fd_pte.specs.Architecture.{directory_height_of, kind_of}
-use Rattle.fd_pte.specs.Entry.{bytes_under}
 use Rattle.fd_pte.specs.declared.entry.Kind.{Kind}
 use Rattle.fd_pte.specs.declared.entry.Kind.TheVariants.{Leaf}
 use Rattle.fd_mini.specs.declared.header.MiniHeader.{MiniHeader}
@@ -21,11 +20,6 @@ use Rattle.fd_kvm.specs.declared.fault.ReadFault.{ReadFault}
 use Rattle.fd_kvm.specs.declared.fault.ReadFault.TheVariants.{Address, SiteFault}
 use Rattle.fd_kvm.proofs.Choice.{chosen_window, chosen_direct, chosen_none}
 use Rattle.fd_kvm.proofs.Quotients.{same_quotient, next_remainder, quotient_grows}
-
-unit_of_arch : (arch : Arch) → 0 < bytes_under (directory_height_of arch)
-unit_of_arch Amd64 = lit< tt
-unit_of_arch Arm64 = lit< tt
-unit_of_arch Riscv = lit< tt
 
 -- what an address in the kernel window is
 pub in_window : (h : MiniHeader) (va : ℕ) → is_in_kernel_window h va ≡ true → (h.kernbase ≤ va) × (entry_index h va < h.pmapsize / 8)
@@ -124,7 +118,7 @@ earlier_in_window : (h : MiniHeader) (va i : ℕ) → is_in_kernel_window h (va 
 earlier_in_window h va i later within =
     let inside = in_window h (va + i) later in
     let low = not_below va h.kernbase i within inside.0 in
-    let grows : entry_index h va ≤ entry_index h (va + i) = quotient_grows (va - h.kernbase) (va + i - h.kernbase) (unit_of h) (unit_of_arch h.arch) (omega arith) in
+    let grows : entry_index h va ≤ entry_index h (va + i) = quotient_grows (va - h.kernbase) (va + i - h.kernbase) (unit_of h) (pow_pos (12 + 9 * directory_height_of h.arch)) (omega arith) in
     window_at h va low (omega (arith, inside.1))
 
 -- the kernel window isn't asked for the later addresses of the direct map either

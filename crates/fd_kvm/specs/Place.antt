@@ -34,7 +34,7 @@ by_table_entry va kind = Err (NotMapped va)
 abbrev pub table_entry : List ℕ → (place va : ℕ) → ℕ
 table_entry f place va = u64_le_at f (place + 8 * (va / 4096 % 512))
 
--- by where a page table stands, if it is dumped
+-- by where a page table stands, if it is dumped; entries of height 0 name none
 abbrev pub by_table : List ℕ → Arch → (va : ℕ) → Option ℕ → Result ℕ AddressFault
 by_table f arch va None = Err (TableMissing va)
 by_table f arch va (Some place) = by_table_entry va (kind_of arch (table_entry f place va) 0)
