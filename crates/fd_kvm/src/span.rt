@@ -13,8 +13,8 @@ ghost use Rattle.fd_kvm.specs.declared.fault.ReadFault.TheVariants.{SiteFault};
 use crate::fault::ReadFault;
 use crate::vmcore::Vmcore;
 use fd_cache::Pages;
-use fd_mini::{AddressFault, MiniHeader, unit_of};
-use fd_pte::{Kind, directory_height, entry_kind};
+use fd_mini::{AddressFault, MiniHeader, entry_height_of, unit_of};
+use fd_pte::{Kind, entry_kind};
 use fd_site::Site;
 
 /// Physical addresses, one after another: the first, which may be 2^64 or more, and how many they are.
@@ -69,7 +69,7 @@ impl Vmcore {
         let header = self.header();
         let place = self.directory() + 8 * entry_index(header, va);
         let bits = self.read_entry(pages, site, place)?;
-        let kind = entry_kind(header.arch, bits, directory_height(header.arch));
+        let kind = entry_kind(header.arch, bits, entry_height_of(header));
         let span = self.entry_span(pages, site, va, kind)?;
         Ok(Span {
             pa: span.pa,

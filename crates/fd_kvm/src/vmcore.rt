@@ -4,9 +4,15 @@ ghost use Rattle.fd_site.specs.Name.{is_good_name};
 ghost use Rattle.fd_mini.specs.Places.{places_of};
 ghost use Rattle.fd_vmcore.specs.Sections.{page_offset};
 
+use fd_bitmap::{Counted, Steps};
 use fd_mini::MiniHeader;
 use fd_vmcore::Core;
 use std::marker::Model;
+
+// Looks for pages in the bitmap, which no one counts here.
+struct Looks;
+
+impl Counted for Looks {}
 
 /// A file that was opened: its name, and its sections. Its pages are read through a cache that the caller keeps.
 #[derive(Drop)]
@@ -52,12 +58,19 @@ impl Vmcore {
         self.core.places().directory
     }
 
-    // Where the page of a physical address stands in the file, if it is dumped.
+    // Where the page of a physical address stands in the file, if it is dumped. An address in a direct map may have more
+    // than 64 bits, and no page has such an address.
     pub(crate) fn find(&self, pa: u128) -> Option<u64>
         ensures place { result ≡ page_offset self.now.sections pa }
         ensures whole { IfSome result (λ page. page % 4096 ≡ 0) }
         ensures limit { IfSome result (λ page. page < 2 ^ 62) }
     {
-        self.core.find_wide(pa)
+        match u64::try_from(pa) {
+            Ok(pa) => self.core.find(pa, &mut Steps::<Looks>::new()),
+            Err(_) => {
+                self.core.no_page_is_past_the_top();
+                None
+            }
+        }
     }
 }

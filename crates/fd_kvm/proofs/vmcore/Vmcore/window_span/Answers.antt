@@ -28,9 +28,9 @@ pub returns-in_err-span-clause-span : goal.returns-in_err-span-clause-span
 returns-in_err-span-clause-span g c told is f there =
     let s = c.args.self.now.sections in
     let kind = c.entry_kind-kind.result in
-    let found = kind_found f s c.args.va c.header-header.result.now c.directory.result c.entry_index.result c.in_ok-bits.bits c.directory_height.result kind
+    let found = kind_found f s c.args.va c.header-header.result.now c.directory.result c.entry_index.result c.in_ok-bits.bits c.entry_height_of.result kind
     c.header-header.ensures c.directory.ensures.place c.entry_index.ensures
-    (c.in_ok-bits.ensures.entry told is f there) c.directory_height.ensures.value c.entry_kind-kind.ensures.kind in
+    (c.in_ok-bits.ensures.entry told is f there) c.entry_height_of.ensures.value c.entry_kind-kind.ensures.kind in
     let p = err_from_is_err_and c.from_residual-in_err-span.result c.from_residual-in_err-span.ensures.1 in
     rw (p.1, p.2) (fault_here (placed f s) (λ a. by_entry f s a kind) c.args.va c.in_err-span.field-0.0
     (by_window_here f s c.args.va kind c.requires.window found) (c.in_err-span.ensures.span told (c.in_ok-bits.ensures.untouched.told ∙ is) f there))
@@ -39,9 +39,9 @@ pub returns-clause-span : goal.returns-clause-span
 returns-clause-span g c told is f there i within =
     let s = c.args.self.now.sections in
     let kind = c.entry_kind-kind.result in
-    let found = kind_found f s c.args.va c.header-header.result.now c.directory.result c.entry_index.result c.in_ok-bits.bits c.directory_height.result kind
+    let found = kind_found f s c.args.va c.header-header.result.now c.directory.result c.entry_index.result c.in_ok-bits.bits c.entry_height_of.result kind
     c.header-header.ensures c.directory.ensures.place c.entry_index.ensures
-    (c.in_ok-bits.ensures.entry told is f there) c.directory_height.ensures.value c.entry_kind-kind.ensures.kind in
+    (c.in_ok-bits.ensures.entry told is f there) c.entry_height_of.ensures.value c.entry_kind-kind.ensures.kind in
     by_window f s c.args.va i kind c.requires.window found
     (let w = c.window_limit.ensures.value in let m = c.min.ensures in let e = ap (λ (h : MiniHeader). window_limit h c.args.va) c.header-header.ensures in
     omega arith)
