@@ -1,14 +1,15 @@
 -- How bytes are spelled in a text, and what a spelling says.
-use Rattle.std.proofs.Common.{◌≡◌, ℕ, suc, ◌+◌, ◌*◌, ◌/◌, ◌%◌, ◌<◌, ◌≤◌, ◌^◌, Bool, true, false, ◌&&◌, not, ◌==◌, cond, List, [], ◌∷◌, ◌++◌, length, get_or, take, drop, All, refl, sym, ◌∙◌, ap, arith, length-append}
+use Rattle.std.proofs.Common.{◌≡◌, ℕ, suc, ◌+◌, ◌*◌, ◌/◌, ◌%◌, ◌<◌, ◌≤◌, ◌^◌, Bool, true, false, inl, inr, ◌&&◌, not, ◌==◌, cond, List, [], ◌∷◌, ◌++◌, length, get_or, take, drop, All, refl, sym, ◌∙◌, ap, arith}
+use Rattle.std.proofs.lemmas.Bool.{cases_lt}
 use Rattle.std.proofs.lemmas.Bool.Decides.{nat_tests}
+use Rattle.std.proofs.lemmas.List.{drop_all, drop_more, get_or_past, take_all}
 use Rattle.std.proofs.lemmas.List.Elements.{All-head, All-tail}
 use Rattle.std.proofs.lemmas.List.Folds.{list_all-append}
 use Rattle.std.specs.Fmt.{digit_glyph}
-use Rattle.std.specs.Int.{w32, to_be_bytes}
 use Rattle.std.specs.List.{list_all, flat_map}
-use Rattle.fd_bytes.specs.Label.{IsText, text_of}
+use Rattle.fd_bytes.specs.Label.{IsText, cut_text, text_of}
 use Rattle.fd_bytes.specs.Printed.{hex}
-use Rattle.fd_info.specs.Info.{escaped, escaped_byte, is_printable, word_digits}
+use Rattle.fd_info.specs.Info.{IsDevice, IsLabel, escaped, escaped_byte, is_printable, word_digits}
 use Rattle.fd_info.specs.Lines.{IsOneLine}
 use Rattle.fd_info.proofs.Digits.{glyph_from, hex_two}
 
@@ -85,30 +86,103 @@ text_in_field (f ∷ fs) (t ∷ ts) is short same =
         let test : (f == 0) ≡ false = ap (λ n. n == 0) head ∙ some in
         ap (λ b. cond b [] (f ∷ text_of fs)) test ∙ (λ i. head i ∷ rest tail i)
 
--- what a spelling begins with, where it begins with an escape
-pub record IsSpelled (byte high low : ℕ) (after rest : List ℕ) : Type 0 where
-  pub high_is : high ≡ digit_glyph false (byte / 16)
-  pub low_is : low ≡ digit_glyph false (byte % 16)
-  pub after_is : after ≡ rest
+-- what stands in a spelling that begins with the backslash
+pub record IsSpelled (byte : ℕ) (spelling rest : List ℕ) : Type 0 where
+  pub high : get_or spelling 2 0 ≡ digit_glyph false (byte / 16)
+  pub low : get_or spelling 3 0 ≡ digit_glyph false (byte % 16)
+  pub behind : drop 4 spelling ≡ rest
 
 backslash : (b : ℕ) → b ≡ 92 → (is_printable b && not (b == 92)) ≡ true → ⊥
 backslash b is plain = grind (arith, nat_tests)
 
-pub spelled : (byte high low : ℕ) (after rest : List ℕ) → byte < 256 → 92 ∷ 120 ∷ high ∷ low ∷ after ≡ escaped_byte byte ++ rest → IsSpelled byte high low after rest
-spelled byte high low after rest small is = by_test (is_printable byte && not (byte == 92)) refl
+pub spelled : (byte : ℕ) (spelling rest : List ℕ) → byte < 256 → spelling ≡ escaped_byte byte ++ rest → get_or spelling 0 0 ≡ 92 → IsSpelled byte spelling rest
+spelled byte spelling rest small is slash = by_test (is_printable byte && not (byte == 92)) refl
   where
-    by_test : (t : Bool) → (is_printable byte && not (byte == 92)) ≡ t → IsSpelled byte high low after rest
+    by_test : (t : Bool) → (is_printable byte && not (byte == 92)) ≡ t → IsSpelled byte spelling rest
     by_test true plain =
-        let same : 92 ∷ 120 ∷ high ∷ low ∷ after ≡ byte ∷ rest = is ∙ ap (λ (l : List ℕ). l ++ rest) (plain_byte byte plain) in
-        let slash : 92 ≡ byte = cc in
-        absurd (backslash byte (sym slash) plain)
+        let same : spelling ≡ byte ∷ rest = is ∙ ap (λ (l : List ℕ). l ++ rest) (plain_byte byte plain) in
+        absurd (backslash byte (sym (ap (λ (l : List ℕ). get_or l 0 0) same) ∙ slash) plain)
     by_test false escape =
-        let same : 92 ∷ 120 ∷ high ∷ low ∷ after ≡ 92 ∷ 120 ∷ digit_glyph false (byte / 16) ∷ digit_glyph false (byte % 16) ∷ rest =
+        let same : spelling ≡ 92 ∷ 120 ∷ digit_glyph false (byte / 16) ∷ digit_glyph false (byte % 16) ∷ rest =
         is ∙ ap (λ (l : List ℕ). l ++ rest) (spelled_byte byte small escape) in
-        record { high_is = cc; low_is = cc; after_is = cc }
+        record {
+          high = ap (λ (l : List ℕ). get_or l 2 0) same;
+          low = ap (λ (l : List ℕ). get_or l 3 0) same;
+          behind = ap (λ (l : List ℕ). drop 4 l) same;
+        }
 
 -- a word's eight digits
 pub word_bytes : (a b c d : ℕ) → a < 256 → b < 256 → c < 256 → d < 256 → flat_map (hex 2) (a ∷ b ∷ c ∷ d ∷ [])
     ≡ digit_glyph false (a / 16) ∷ digit_glyph false (a % 16) ∷ digit_glyph false (b / 16) ∷ digit_glyph false (b % 16)
     ∷ digit_glyph false (c / 16) ∷ digit_glyph false (c % 16) ∷ digit_glyph false (d / 16) ∷ digit_glyph false (d % 16) ∷ []
 word_bytes a b c d sa sb sc sd = (λ i. hex_two a sa i ++ (hex_two b sb i ++ (hex_two c sc i ++ (hex_two d sd i ++ []))))
+
+four_lines : (a b c d : ℕ) → a < 256 → b < 256 → c < 256 → d < 256 → IsOneLine (flat_map (hex 2) (a ∷ b ∷ c ∷ d ∷ []))
+four_lines a b c d sa sb sc sd =
+    both_lines (hex 2 a) (hex 2 b ++ (hex 2 c ++ (hex 2 d ++ []))) (hex_one_line a sa)
+    (both_lines (hex 2 b) (hex 2 c ++ (hex 2 d ++ [])) (hex_one_line b sb)
+    (both_lines (hex 2 c) (hex 2 d ++ []) (hex_one_line c sc)
+    (both_lines (hex 2 d) [] (hex_one_line d sd) refl)))
+
+pub word_one_line : (word : ℕ) → IsOneLine (word_digits word)
+word_one_line word =
+    four_lines (word / 16777216 % 256) (word / 65536 % 256) (word / 256 % 256) (word % 256) (omega arith) (omega arith) (omega arith) (omega arith)
+
+-- what the digits of a word are, two by two
+pub record IsWord (word : ℕ) (digits : List ℕ) : Type 0 where
+  pub eight : length digits ≡ 8
+  pub h0 : get_or digits 0 0 ≡ digit_glyph false (word / 16777216 % 256 / 16)
+  pub l0 : get_or digits 1 0 ≡ digit_glyph false (word / 16777216 % 256 % 16)
+  pub h1 : get_or digits 2 0 ≡ digit_glyph false (word / 65536 % 256 / 16)
+  pub l1 : get_or digits 3 0 ≡ digit_glyph false (word / 65536 % 256 % 16)
+  pub h2 : get_or digits 4 0 ≡ digit_glyph false (word / 256 % 256 / 16)
+  pub l2 : get_or digits 5 0 ≡ digit_glyph false (word / 256 % 256 % 16)
+  pub h3 : get_or digits 6 0 ≡ digit_glyph false (word % 256 / 16)
+  pub l3 : get_or digits 7 0 ≡ digit_glyph false (word % 256 % 16)
+
+pub word_spelled : (word : ℕ) (digits : List ℕ) → digits ≡ word_digits word → IsWord word digits
+word_spelled word digits is =
+    let same = is ∙ word_bytes (word / 16777216 % 256) (word / 65536 % 256) (word / 256 % 256) (word % 256) (omega arith) (omega arith) (omega arith) (omega arith) in
+    record {
+      eight = ap length same;
+      h0 = ap (λ (l : List ℕ). get_or l 0 0) same;
+      l0 = ap (λ (l : List ℕ). get_or l 1 0) same;
+      h1 = ap (λ (l : List ℕ). get_or l 2 0) same;
+      l1 = ap (λ (l : List ℕ). get_or l 3 0) same;
+      h2 = ap (λ (l : List ℕ). get_or l 4 0) same;
+      l2 = ap (λ (l : List ℕ). get_or l 5 0) same;
+      h3 = ap (λ (l : List ℕ). get_or l 6 0) same;
+      l3 = ap (λ (l : List ℕ). get_or l 7 0) same;
+    }
+
+pub word_joined : (word a b c d : ℕ) → word < 2 ^ 32 → a ≡ word / 16777216 % 256 → b ≡ word / 65536 % 256 → c ≡ word / 256 % 256 → d ≡ word % 256
+    → ((a * 16777216 + b * 65536) + c * 256) + d ≡ word
+word_joined word a b c d small ia ib ic id = omega arith
+
+-- what is left of a spelled text, one byte on and at its end
+pub next_byte : (text : List ℕ) (i : ℕ) → i < length text → escaped (drop i text) ≡ escaped_byte (get_or text i 0) ++ escaped (drop (i + 1) text)
+next_byte text i inside = ap escaped (drop_more text i 0 inside)
+
+pub no_byte : (text : List ℕ) (i : ℕ) → length text ≤ i → escaped (drop i text) ≡ []
+no_byte text i past = ap escaped (drop_all i text past)
+
+-- a device's name fits its label
+pub device_cut : (value device : List ℕ) → value ≡ device → IsDevice device → cut_text 32 value ≡ device
+device_cut value device is named =
+    ap (λ (l : List ℕ). take 31 (text_of l)) is
+    ∙ ap (λ (l : List ℕ). take 31 l) (printable_is_text device named.printable)
+    ∙ take_all 31 device (omega (arith, named.short))
+
+-- what the first byte of the rest of a spelled text is, and what is behind it, where these are told of any spelling
+module _ (text rest after : List ℕ) (i byte n : ℕ) (label : IsLabel n text) (is : rest ≡ escaped (drop i text)) where
+  pub byte_taken : ((b : ℕ) (more : List ℕ) → b < 256 → rest ≡ escaped_byte b ++ more → byte ≡ b) → (rest ≡ [] → byte ≡ 0) → byte ≡ get_or text i 0
+  byte_taken some none = elim (cases_lt i (length text)) [
+    | inl inside ↦ some (get_or text i 0) (escaped (drop (i + 1) text)) (label.text.bytes i 0 inside) (is ∙ next_byte text i inside)
+    | inr past ↦ none (is ∙ no_byte text i past) ∙ sym (get_or_past text i 0 past)
+  ]
+
+  pub rest_taken : ((b : ℕ) (more : List ℕ) → b < 256 → rest ≡ escaped_byte b ++ more → after ≡ more) → (rest ≡ [] → after ≡ []) → after ≡ escaped (drop (i + 1) text)
+  rest_taken some none = elim (cases_lt i (length text)) [
+    | inl inside ↦ some (get_or text i 0) (escaped (drop (i + 1) text)) (label.text.bytes i 0 inside) (is ∙ next_byte text i inside)
+    | inr past ↦ none (is ∙ no_byte text i past) ∙ sym (no_byte text (i + 1) (omega arith))
+  ]

@@ -1,16 +1,17 @@
 -- What decimal digits spell.
-use Rattle.std.proofs.Common.{◌≡◌, ℕ, ◌+◌, ◌-◌, ◌*◌, ◌<◌, ◌≤◌, ◌^◌, Bool, true, false, ◌&&◌, ◌==◌, nat_lt, nat_le, cond, List, [], ◌∷◌, length, take, drop, Option, Some, None, codes, refl, sym, ◌∙◌, ap, arith}
+use Rattle.std.proofs.Common.{◌≡◌, ℕ, ◌+◌, ◌-◌, ◌*◌, ◌<◌, ◌≤◌, ◌^◌, Bool, true, false, ◌&&◌, ◌==◌, nat_lt, nat_le, cond, List, [], ◌∷◌, length, take, drop, Some, None, Result, Ok, Err, IfOk, OnErr, codes, refl, sym, ◌∙◌, ap, arith}
 use Rattle.std.proofs.lemmas.Bool.Decides.{nat_tests}
 use Rattle.std.proofs.lemmas.Fmt.{decimal_is_IsNumeral, length-decimal-le}
 use Rattle.std.proofs.lemmas.Str.{digit_value_digit}
-use Rattle.std.proofs.lemmas.Str.Parse.{IsNumeralModel, digit_from_value, numerals_by_weight, tells_digits}
+use Rattle.std.proofs.lemmas.Str.Parse.{IsNumeralModel, numerals_by_weight, tells_digits}
 use Rattle.std.specs.Char.{digit_value, is_digit}
 use Rattle.std.specs.Fmt.{decimal}
 use Rattle.std.specs.Int.{IsInRange}
 use Rattle.std.specs.List.{list_all}
+use Rattle.std.specs.Result.{result_unwrap_or}
 use Rattle.std.specs.Str.{bytes_eq}
-use Rattle.std.specs.Str.Parse.{AllDigits, digits_value}
-use Rattle.fd_bytes.specs.Number.{is_numeral, number_of, numeral, place_value}
+use Rattle.std.specs.Str.Parse.{AllDigits}
+use Rattle.fd_bytes.specs.Number.{number_of, numeral, place_value}
 use Rattle.fd_info.proofs.Digits.{decimal_passes}
 
 -- digits don't begin with `0x`
@@ -73,3 +74,13 @@ unfolding numeral
 numeral_long ds long = grind (arith, nat_tests)
 
 pub ruleset five_digits = (number_of-short, numeral_other, numeral_long)
+
+-- a number that is read from its digits
+pub read_decimal : {E : Type 0} (r : Result ℕ E) (text : List ℕ) (n : ℕ) → IfOk r (λ v. number_of text ≡ Some v) → OnErr r (number_of text ≡ None) → text ≡ decimal n → n < 2 ^ 64
+    → result_unwrap_or r 0 ≡ n
+read_decimal (Ok v) text n ok err is small =
+    let both : Some v ≡ Some n = sym ok ∙ ap number_of is ∙ number_of-decimal n small in
+    cc
+read_decimal (Err e) text n ok err is small =
+    let both : None ≡ Some n = sym err ∙ ap number_of is ∙ number_of-decimal n small in
+    absurd (cc)

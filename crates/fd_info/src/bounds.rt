@@ -1,6 +1,8 @@
 //! The text of the file `bounds`: the number that the next dump is saved under.
 
 ghost use Rattle.std.specs.Prelude.{◌≡◌, ◌≤◌};
+ghost use Rattle.std.specs.Char.{is_digit};
+ghost use Rattle.std.specs.List.{list_all};
 ghost use Rattle.fd_bytes.specs.Number.{numeral};
 ghost use Rattle.fd_info.specs.Bounds.{bounds_text, bounds_value, without_newline};
 
@@ -41,8 +43,20 @@ fn without_newline(text: &[u8]) -> &[u8]
 fn read_digits(digits: &[u8]) -> Option<u64>
     ensures { result ≡ numeral 10 5 digits.now }
 {
-    if digits.len() > 5 || !digits.iter().all(|byte| (*byte as char).is_digit(10)) {
+    if digits.len() > 5 {
         return None;
     }
-    read_number(digits).ok()
+    if !are_digits(digits) {
+        return None;
+    }
+    match read_number(digits) {
+        Ok(number) => Some(number),
+        Err(_) => None,
+    }
+}
+
+fn are_digits(text: &[u8]) -> bool
+    ensures { result ≡ list_all (λ c. is_digit c 10) text.now }
+{
+    text.iter().all(|byte| (*byte as char).is_digit(10))
 }

@@ -1,7 +1,7 @@
 //! The lines of a text, of which each has a key and a value. A reader takes them in their order; where the text isn't made
 //! of such lines, what it gives means nothing.
 
-ghost use Rattle.std.specs.Prelude.{◌≡◌, ◌<◌, ◌^◌, ◌/◌, ◌%◌, ℕ, List, [], ◌++◌, false};
+ghost use Rattle.std.specs.Prelude.{◌≡◌, ◌<◌, ◌^◌, ◌/◌, ◌%◌, ◌==◌, ℕ, List, [], ◌++◌, IfSome, false, length, position};
 ghost use Rattle.std.specs.Fmt.{decimal, digit_glyph};
 ghost use Rattle.fd_bytes.specs.Printed.{hex};
 ghost use Rattle.fd_info.specs.Info.{IsLabel, escaped, escaped_byte, line, word_digits};
@@ -28,7 +28,7 @@ impl<'a> Lines<'a> {
         ensures rest { (value rest : List ℕ) → IsOneLine value → self.old.rest.now ≡ line key.now value rest → self.new.rest.now ≡ rest }
     {
         let line = behind(self.rest, key);
-        match line.iter().position(|byte| *byte == b'\n') {
+        match line_end(line) {
             Some(end) => {
                 self.rest = &line[end + 1..];
                 &line[..end]
@@ -74,11 +74,22 @@ impl<'a> Lines<'a> {
 }
 
 // The text behind a key.
-#[tactic(auto, using(crate::proofs::OneLine::key_steps))]
 fn behind<'a>(text: &'a [u8], key: &[u8]) -> &'a [u8]
     ensures { (rest : List ℕ) → text.now ≡ key.now ++ rest → result.now ≡ rest }
 {
-    text.strip_prefix(key).unwrap_or(text)
+    if key.len() <= text.len() {
+        &text[key.len()..]
+    } else {
+        text
+    }
+}
+
+// Where a line ends.
+fn line_end(text: &[u8]) -> Option<usize>
+    ensures place { result ≡ position (λ byte. byte == 10) text.now }
+    ensures inside { IfSome result (λ end. end < length text.now) }
+{
+    text.iter().position(|byte| *byte == b'\n')
 }
 
 fn word_of(digits: &[u8]) -> u32
@@ -101,9 +112,9 @@ fn unescaped<const N: usize>(value: &[u8]) -> Label<N>
 {
     let mut field = [0; N];
     let mut rest = value;
-    for slot in field.iter_mut() {
+    for i in 0..N {
         let (byte, after) = first_byte(rest);
-        *slot = byte;
+        field[i] = byte;
         rest = after;
     }
     Label::read(&field)
@@ -116,8 +127,10 @@ fn first_byte(spelling: &[u8]) -> (u8, &[u8])
     ensures end { spelling.now ≡ [] → result.0 ≡ 0 }
     ensures still { spelling.now ≡ [] → result.1.now ≡ [] }
 {
+    if spelling.len() >= 4 && spelling[0] == b'\\' {
+        return (byte_of(spelling[2], spelling[3]), &spelling[4..]);
+    }
     match spelling {
-        [b'\\', b'x', high, low, rest @ ..] => (byte_of(*high, *low), rest),
         [byte, rest @ ..] => (*byte, rest),
         [] => (0, spelling),
     }

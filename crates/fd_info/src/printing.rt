@@ -24,14 +24,22 @@ pub fn print_info(header: &Header, device: &[u8], parity: u32, number: u32) -> A
     let mut text = Text::new();
     put_line(&mut text, keys::DEVICE, device);
     put_text(&mut text, keys::ARCHITECTURE, header.architecture.bytes());
-    put_number(&mut text, keys::ARCHITECTURE_VERSION, u64::from(header.architectureversion));
+    put_number(
+        &mut text,
+        keys::ARCHITECTURE_VERSION,
+        u64::from(header.architectureversion),
+    );
     put_number(&mut text, keys::DUMP_LENGTH, header.dumplength);
     put_number(&mut text, keys::BLOCKSIZE, u64::from(header.blocksize));
     put_line(&mut text, keys::COMPRESSION, b"none");
     put_number(&mut text, keys::DUMPTIME, header.dumptime);
     put_text(&mut text, keys::HOSTNAME, header.hostname.bytes());
     put_line(&mut text, keys::MAGIC, b"FreeBSD Kernel Dump");
-    put_text(&mut text, keys::VERSION_STRING, header.versionstring.bytes());
+    put_text(
+        &mut text,
+        keys::VERSION_STRING,
+        header.versionstring.bytes(),
+    );
     put_text(&mut text, keys::PANIC_STRING, header.panicstring.bytes());
     put_word(&mut text, keys::DUMP_PARITY, parity);
     put_number(&mut text, keys::BOUNDS, u64::from(number));

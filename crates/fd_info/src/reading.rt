@@ -23,12 +23,7 @@ pub fn read_info(text: &[u8]) -> Option<Info>
         return None;
     }
     // One spelling alone is read: zeros before a number, or a byte that is escaped without need, make another text.
-    let again = print_info(
-        &info.header,
-        info.device.bytes(),
-        info.parity,
-        info.number,
-    );
+    let again = print_info(&info.header, info.device.bytes(), info.parity, info.number);
     if again.as_slice() == text {
         Some(info)
     } else {
