@@ -1,0 +1,5 @@
+pub mod Bounds
+pub mod Info
+pub mod Lines
+pub mod Name
+pub mod Saved

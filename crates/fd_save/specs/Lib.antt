@@ -1,0 +1,4 @@
+pub mod Crash
+pub mod Number
+pub mod Outcome
+pub mod Saving
