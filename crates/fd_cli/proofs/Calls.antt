@@ -86,8 +86,9 @@ worked_on_site row old new link ports result works frame cause blamed = record {
 -- no memory was found for the words
 starves_at_once : (command : Option Command) (found : Seen) → (row_of command).Starves found nothing
 starves_at_once None found = refl
+starves_at_once (Some (command.Image arch number file)) found = refl
 starves_at_once (Some command.Judge) found = refl
-starves_at_once (Some (command.Dump name)) found = refl
+starves_at_once (Some (command.Dump source)) found = refl
 starves_at_once (Some (command.Read name va count)) found = refl
 
 pub starved_at_once : (command : Option Command) (r : Reach) (result : Result Reply Trouble) → IsErrAnd result (λ trouble. trouble ≡ NoMemory)
