@@ -1,5 +1,7 @@
 -- The proofs that other files cite.
 pub mod Pages
 pub mod Places
+pub mod Runs
 pub mod Segments
+pub mod Slices
 pub mod Valid

@@ -20,7 +20,7 @@ find-none : {X : Type 0} (test : X → Bool) (xs : List X) (d : X) → ((k : ℕ
 find-none test [] d fails = refl
 find-none test (x ∷ xs) d fails = rw (fails 0 (omega arith)) (find-none test xs d (λ k within. fails (suc k) (omega arith)))
 
-find-at : {X : Type 0} (test : X → Bool) (xs : List X) (i : ℕ) (d : X) → i < length xs
+pub find-at : {X : Type 0} (test : X → Bool) (xs : List X) (i : ℕ) (d : X) → i < length xs
     → ((k : ℕ) → k < i → test (get_or xs k d) ≡ false) → test (get_or xs i d) ≡ true → find test xs ≡ Some (get_or xs i d)
 find-at test [] i d within fails passes = absurd (omega arith)
 find-at test (x ∷ xs) zero d within fails passes = rw passes
@@ -46,7 +46,7 @@ module _ (segs : List Seg) (kept : segment_out_of_order segs ≡ None) (d : Seg)
       rw same (omega arith)
 
   -- and of each later one
-  apart : (j k : ℕ) → j < k → k < length segs → end_of (get_or segs j d) ≤ (get_or segs k d).start
+  pub apart : (j k : ℕ) → j < k → k < length segs → end_of (get_or segs j d) ≤ (get_or segs k d).start
   apart j k before within =
       let place : suc (j + (k - j - 1)) ≡ k = omega arith in
       let ends = apart_by (k - j - 1) j (omega arith) in

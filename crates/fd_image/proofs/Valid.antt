@@ -1,13 +1,14 @@
 -- What the validity of an image says of each of its fields.
-use Rattle.std.proofs.Common.{◌≡◌, ℕ, suc, ◌<◌, ◌≤◌, Bool, true, false, not, cond, find, List, [], ◌∷◌, length}
+use Rattle.std.proofs.Common.{◌≡◌, ℕ, suc, ◌<◌, ◌≤◌, Bool, true, false, not, ◌||◌, if◌then◌else◌, cond, find, List, [], ◌∷◌, length}
 use Rattle.std.proofs.Common.{get_or, Option, Some, None, Bor, IsTrue, IfSome, ap, sym, ◌∙◌, refl, arith, ◌%◌, min, max}
 use Rattle.std.specs.List.{position_or_len}
 use Rattle.std.specs.Option.{option_copied}
 use Rattle.std.proofs.lemmas.List.Sums.{fails_before_first}
 use Rattle.std.proofs.lemmas.Bool.Decides.{nat_tests}
+use Rattle.fd_bytes.specs.Profile.{profile_of}
 use Rattle.fd_image.specs.Image.{MachineImage, first_failing, missing_segment, ragged_segment, segment_out_of_order, segment_past_end, is_whole_pages, unless}
 use Rattle.fd_image.specs.Image.{is_within_limits, ragged_pair, pair_out_of_order, pair_outside, bad_wanted_page, bad_root, is_kernel_window, is_in_kernel_space}
-use Rattle.fd_image.specs.Image.{is_direct_map, are_apart, breaches, first_breach, broken_rule, IsValid, is_page_aligned, kernel_end}
+use Rattle.fd_image.specs.Image.{is_direct_map, are_apart, is_known_paging, is_riscv, levels_of, breaches, first_breach, broken_rule, IsValid, is_page_aligned, kernel_end}
 use Rattle.fd_image.specs.Physical.{has_address, segment_of}
 use Rattle.fd_image.specs.declared.parts.Seg.{Seg}
 
@@ -27,6 +28,7 @@ pub record KeepsRules (m : MachineImage) : Type 0 where
   pub kernel_space : unless (is_in_kernel_space m) ≡ None
   pub direct_map : unless (is_direct_map m.arch m.windows) ≡ None
   pub windows_apart : unless (are_apart m.windows) ≡ None
+  pub known_paging : unless (is_known_paging m.arch m.sv48) ≡ None
 
 -- where no rule is broken, the first isn't and no later one is
 unbroken-first : (n : ℕ) (place : Option ℕ) (later : List (Option ℕ)) → first_breach n (place ∷ later) ≡ None → (place ≡ None) × (first_breach (suc n) later ≡ None)
@@ -50,6 +52,7 @@ rules_kept m e =
     let a12 = unbroken-first 12 _ _ a11.1 in
     let a13 = unbroken-first 13 _ _ a12.1 in
     let a14 = unbroken-first 14 _ _ a13.1 in
+    let a15 = unbroken-first 15 _ _ a14.1 in
     record {
       has_segment = a1.0;
       segments_whole = a2.0;
@@ -65,6 +68,7 @@ rules_kept m e =
       kernel_space = a12.0;
       direct_map = a13.0;
       windows_apart = a14.0;
+      known_paging = a15.0;
     }
 
 -- where no place fails, each item passes
@@ -112,6 +116,18 @@ pub root_is_aligned : (m : MachineImage) → IsValid m → m.root % 4096 ≡ 0
 root_is_aligned m valid =
     let test : is_page_aligned m.root ≡ true = kept (is_page_aligned m.root) (rules_kept m valid.unbroken).root_aligned in
     grind (arith, nat_tests)
+
+-- Sv48 is on RISC-V alone
+pub no_sv48 : (m : MachineImage) → IsValid m → is_riscv m.arch ≡ false → m.sv48 ≡ false
+no_sv48 m valid other = by_test m.sv48 (is_riscv m.arch) (kept (is_known_paging m.arch m.sv48) (rules_kept m valid.unbroken).known_paging) other
+  where
+    by_test : (sv48 riscv : Bool) → (not sv48 || riscv) ≡ true → riscv ≡ false → sv48 ≡ false
+    by_test false riscv test other = refl
+    by_test true riscv test other = absurd (cc (test, other))
+
+-- and the others have the levels of their profile
+pub levels_of_profile : (m : MachineImage) → IsValid m → is_riscv m.arch ≡ false → levels_of m ≡ (profile_of m.arch).levels
+levels_of_profile m valid other = ap (λ sv48. if sv48 then 4 else (profile_of m.arch).levels) (no_sv48 m valid other)
 
 -- no kernel address lies in the kernel window and in the direct map
 pub no_address_in_both : (m : MachineImage) → IsValid m → (va : ℕ) → m.windows.kernbase ≤ va → va < kernel_end m.windows → m.windows.dmapbase ≤ va → va < m.windows.dmapend → ⊥

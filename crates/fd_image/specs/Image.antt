@@ -1,8 +1,9 @@
--- The machine image and the fourteen rules of a valid one. Both are this project's own format.
-use Rattle.std.specs.Prelude.{ℕ, suc, ◌+◌, ◌-◌, ◌%◌, ◌^◌, ◌<◌, ◌≡◌, min, max, Bool, not, ◌&&◌, ◌||◌, ◌==◌}
+-- The machine image and the fifteen rules of a valid one. Both are this project's own format.
+use Rattle.std.specs.Prelude.{ℕ, suc, ◌+◌, ◌-◌, ◌%◌, ◌^◌, ◌<◌, ◌≡◌, min, max, Bool, true, false, not, ◌&&◌, ◌||◌, ◌==◌}
 use Rattle.std.specs.Prelude.{nat_lt, nat_le, if◌then◌else◌, List, [], ◌∷◌, length, map, position, zip, sum_by, All, Option, Some, None}
 use Rattle.std.specs.List.{list_any}
 use Rattle.fd_bytes.specs.declared.arch.Arch.{Arch}
+use Rattle.fd_bytes.specs.declared.arch.Arch.TheVariants.{Amd64, Arm64, Riscv}
 use Rattle.fd_bytes.specs.Profile.{profile_of}
 use Rattle.fd_image.specs.declared.rules.BadImage.{BadImage}
 use Rattle.fd_image.specs.declared.parts.Parts.{Parts}
@@ -14,12 +15,13 @@ use Rattle.fd_image.specs.declared.parts.Windows.{Windows}
 abbrev pub MachineImage : Type 0
 MachineImage = Parts
 
--- the levels of the image's page tables, and the least address of its kernel window
+-- the levels of the image's page tables, and the least address of its kernel window: in Sv48 (the RISC-V privileged
+-- architecture) they are four, and the upper half of 48 bits; else they are the architecture's
 abbrev pub levels_of : MachineImage → ℕ
-levels_of m = (profile_of m.arch).levels
+levels_of m = if m.sv48 then 4 else (profile_of m.arch).levels
 
 abbrev pub kernel_start_of : MachineImage → ℕ
-kernel_start_of m = (profile_of m.arch).kernel_start
+kernel_start_of m = if m.sv48 then 0xffff_8000_0000_0000 else (profile_of m.arch).kernel_start
 
 -- the first address past a segment, and past the kernel window
 abbrev pub end_of : Seg → ℕ
@@ -146,13 +148,22 @@ is_direct_map arch w =
 abbrev pub are_apart : Windows → Bool
 are_apart w = nat_le (min (kernel_end w) w.dmapend) (max w.kernbase w.dmapbase)
 
+-- 15: Sv48 is on RISC-V alone
+abbrev pub is_riscv : Arch → Bool
+is_riscv Amd64 = false
+is_riscv Arm64 = false
+is_riscv Riscv = true
+
+abbrev pub is_known_paging : Arch → Bool → Bool
+is_known_paging arch sv48 = not sv48 || is_riscv arch
+
 -- the least place that breaks each rule, in the order of the rules
 unfoldable pub breaches : MachineImage → List (Option ℕ)
 breaches m =
     missing_segment m.segs ∷ ragged_segment m.segs ∷ segment_out_of_order m.segs ∷ segment_past_end m.arch m.segs
     ∷ unless (is_within_limits m) ∷ ragged_pair m.avail ∷ pair_out_of_order m.avail ∷ pair_outside m.segs m.avail
     ∷ bad_wanted_page m.wanted ∷ bad_root m.root ∷ unless (is_kernel_window m.arch m.windows) ∷ unless (is_in_kernel_space m)
-    ∷ unless (is_direct_map m.arch m.windows) ∷ unless (are_apart m.windows) ∷ []
+    ∷ unless (is_direct_map m.arch m.windows) ∷ unless (are_apart m.windows) ∷ unless (is_known_paging m.arch m.sv48) ∷ []
 
 -- the first rule with a place, where the rules are numbered from this number on
 abbrev pub first_breach : ℕ → List (Option ℕ) → Option BadImage
@@ -180,7 +191,7 @@ pub record IsTyped (m : MachineImage) : Type 0 where
   pub msgbuf : AreBytes m.texts.msgbuf
   pub time : m.texts.time < 2 ^ 64
 
--- a valid image: its numbers are within their types and it keeps the fourteen rules
+-- a valid image: its numbers are within their types and it keeps the fifteen rules
 pub record IsValid (m : MachineImage) : Type 0 where
   pub typed : IsTyped m
   pub unbroken : broken_rule m ≡ None

@@ -1,5 +1,5 @@
 -- Words and pages of a machine image at physical addresses.
-use Rattle.std.specs.Prelude.{ℕ, ◌+◌, ◌-◌, ◌%◌, Bool, ◌&&◌, nat_le, nat_lt, if◌then◌else◌, List, find, slice_range, Option, None, option_map}
+use Rattle.std.specs.Prelude.{ℕ, ◌+◌, ◌-◌, ◌%◌, ◌*◌, Bool, ◌&&◌, nat_le, nat_lt, if◌then◌else◌, List, [], find, slice_range, Option, None, option_map, unwrap_or}
 use Rattle.fd_bytes.specs.Field.{u64_le_at}
 use Rattle.fd_image.specs.Image.{MachineImage, end_of, is_multiple}
 use Rattle.fd_image.specs.declared.parts.Seg.{Seg}
@@ -30,3 +30,11 @@ page_in seg pa = slice_range seg.bytes (page_start pa - seg.start) (page_start p
 
 unfoldable pub page_of : MachineImage → ℕ → Option (List ℕ)
 page_of m pa = option_map (λ seg. page_in seg pa) (segment_of m pa)
+
+-- the physical pages from an address on: the bytes of at most this many, from the page of the address on, as far as its
+-- segment goes; none where it lies in no segment
+abbrev pub pages_in : Seg → ℕ → ℕ → List ℕ
+pages_in seg pa most = slice_range seg.bytes (page_start pa - seg.start) (page_start pa - seg.start + 4096 * most)
+
+unfoldable pub pages_from : MachineImage → ℕ → ℕ → List ℕ
+pages_from m pa most = unwrap_or (option_map (λ seg. pages_in seg pa most) (segment_of m pa)) []

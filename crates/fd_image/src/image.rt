@@ -1,13 +1,13 @@
 //! The valid image, with its words and pages.
 ghost use Rattle.std.specs.Prelude.{◌≡◌, ◌⊎◌, ◌%◌, Some, None, IsTrue, IfSome, IfOk, IfErr, find, option_copied};
 ghost use Rattle.fd_image.specs.Image.{broken_rule, levels_of, segment_out_of_order, is_whole_pages, IsTyped, IsValid};
-ghost use Rattle.fd_image.specs.Physical.{has_address, page_in, page_of, segment_of, word_in};
+ghost use Rattle.fd_image.specs.Physical.{has_address, page_in, page_of, pages_from, pages_in, segment_of, word_in};
 
 use crate::memory::Memory;
 use crate::parts::{Parts, Seg, Texts, Windows};
 use crate::rules::{BadImage, broken_rule};
 use crate::typed::is_typed;
-use fd_bytes::{Arch, get_u64_le};
+use fd_bytes::Arch;
 use std::marker::Model;
 
 /// A valid machine image.
@@ -27,7 +27,7 @@ impl Model for Image {
 }
 
 impl Image {
-    /// The image of these parts, or the first of the fourteen rules that they break. A refusal drops the parts.
+    /// The image of these parts, or the first of the fifteen rules that they break. A refusal drops the parts.
     pub fn new(parts: Parts) -> Result<Self, BadImage>
         ensures valid { IfOk result (λ image. image ≡ parts) }
         ensures kept { IfOk result (λ _. broken_rule parts ≡ None) }
@@ -49,13 +49,25 @@ impl Image {
         self.parts.arch
     }
 
-    /// How many levels the page tables have.
+    /// Whether the page tables are RISC-V's with four levels, Sv48.
+    pub fn sv48(&self) -> bool
+        ensures value { result ≡ self.now.sv48 }
+        ensures valid { IsValid self.now }
+    {
+        self.parts.sv48
+    }
+
+    /// How many levels the page tables have: 4, but 3 in RISC-V's Sv39 (not in its Sv48).
     pub fn levels(&self) -> u32
         ensures value { result ≡ levels_of self.now }
         ensures few { (result ≡ 3) ⊎ (result ≡ 4) }
         ensures valid { IsValid self.now }
     {
-        self.parts.arch.profile().levels
+        if self.parts.sv48 {
+            4
+        } else {
+            self.parts.arch.profile().levels
+        }
     }
 
     /// The segments of physical memory, in the order of their addresses.
@@ -117,6 +129,18 @@ impl Image {
         }
     }
 
+    /// The bytes of at most `most` pages from the page of a physical address on, as far as its segment goes; none where
+    /// the address lies in no segment.
+    #[tactic(auto, unfolding(crate::specs::Physical::pages_from))]
+    pub fn pages(&self, pa: u64, most: u64) -> &[u8]
+        ensures { result.now ≡ pages_from self.now pa most }
+    {
+        match self.segment_of(pa) {
+            Some(seg) => pages_in(seg, pa, most),
+            None => &[],
+        }
+    }
+
     fn segment_of(&self, pa: u64) -> Option<&Seg>
         ensures value { option_copied result ≡ segment_of self.now pa }
         ensures within { IfSome result (λ seg. IsTrue (has_address pa seg.now)) }
@@ -174,15 +198,27 @@ fn page_in(seg: &Seg, pa: u64) -> &[u8]
     ensures { result.now ≡ page_in seg.now pa }
 {
     let at = (pa - pa % 4096 - seg.start) as usize;
-    &seg.bytes.as_slice()[at..at + 4096]
+    seg.bytes.view(at, 4096)
+}
+
+// At most `most` pages from the page of an address of a segment of whole pages on.
+fn pages_in(seg: &Seg, pa: u64, most: u64) -> &[u8]
+    requires within { IsTrue (has_address pa seg.now) }
+    requires whole { IsTrue (is_whole_pages seg.now) }
+    ensures { result.now ≡ pages_in seg.now pa most }
+{
+    let at = (pa - pa % 4096 - seg.start) as usize;
+    let pages = most.min((seg.bytes.len() - at) as u64 / 4096);
+    seg.bytes.view(at, 4096 * pages as usize)
 }
 
 // The word at an address of a segment of whole pages.
+#[tactic(auto, unfolding(fd_bytes::specs::Field::u64_le_at))]
 fn word_in(seg: &Seg, pa: u64) -> u64
     requires aligned { pa % 8 ≡ 0 }
     requires within { IsTrue (has_address pa seg.now) }
     requires whole { IsTrue (is_whole_pages seg.now) }
     ensures { result ≡ word_in seg.now pa }
 {
-    get_u64_le(seg.bytes.as_slice(), (pa - seg.start) as usize)
+    seg.bytes.word((pa - seg.start) as usize)
 }

@@ -1,6 +1,6 @@
 //! The machine image: what a machine's memory held, with its page tables, ranges and texts, valid
 //! by its type. Physical memory is read as words and pages at physical addresses.
-//! The image and its fourteen rules are this project's own format.
+//! The image and its fifteen rules are this project's own format.
 #![tactic(auto)]
 
 mod image;

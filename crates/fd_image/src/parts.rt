@@ -1,12 +1,13 @@
 //! The fields of a machine image.
 use crate::sequence::Sequence;
 use fd_bytes::Arch;
+use fd_raw::Region;
 
 /// A segment of physical memory: its first address and its bytes.
 #[derive(Drop)]
 pub struct Seg {
     pub start: u64,
-    pub bytes: Sequence<u8>,
+    pub bytes: Region,
 }
 
 /// The kernel window, `kernspan` bytes of kernel addresses from `kernbase` on, and the direct map, the
@@ -31,12 +32,13 @@ pub struct Texts {
     pub time: u64,
 }
 
-/// The fields of a machine image, valid or not: the architecture, the segments of physical memory, the
-/// ranges of available memory as pairs of a first address and the address past the last, the addresses of the
+/// The fields of a machine image, valid or not: the architecture, and whether it is RISC-V with the four levels of
+/// tables of Sv48; the segments of physical memory, the ranges of available memory as pairs of a first address and the address past the last, the addresses of the
 /// pages that are wanted in a dump, the address of the top page table, the windows and the texts.
 #[derive(Drop)]
 pub struct Parts {
     pub arch: Arch,
+    pub sv48: bool,
     pub segs: Sequence<Seg>,
     pub avail: Sequence<(u64, u64)>,
     pub wanted: Sequence<u64>,

@@ -1,13 +1,16 @@
 //! The rules of a valid image: each function answers the least place that breaks its rule.
 ghost use Rattle.std.specs.Prelude.{◌≡◌, nat_le, length, sum_by};
-ghost use Rattle.fd_image.specs.Image.{first_failing, end_of, kernel_end, kernel_start_of, direct_map_end, unless, missing_segment, is_whole_pages, ragged_segment, segment_out_of_order, segment_past_end, has_texts_within_limits, is_within_limits, is_range_of_pages, ragged_pair, pair_out_of_order, lies_in_segment, pair_outside, bad_wanted_page, bad_root, is_kernel_window, is_in_kernel_space, is_direct_map, are_apart, first_breach, broken_rule};
+ghost use Rattle.fd_image.specs.Image.{first_failing, end_of, kernel_end, kernel_start_of, direct_map_end, unless, missing_segment, is_whole_pages, ragged_segment, segment_out_of_order, segment_past_end, has_texts_within_limits, is_within_limits, is_range_of_pages, ragged_pair, pair_out_of_order, lies_in_segment, pair_outside, bad_wanted_page, bad_root, is_kernel_window, is_in_kernel_space, is_direct_map, are_apart, is_known_paging, first_breach, broken_rule};
 
 use crate::parts::{Parts, Seg, Texts, Windows};
 use fd_bytes::Arch;
 
 const PAGE: u64 = 4096;
 
-/// The first rule that an image breaks, from 1 to 14, and the least index of a segment, pair or page that
+// Where kernel addresses begin in Sv48: the upper half of 48 bits.
+const SV48_KERNEL_START: u64 = 0xffff_8000_0000_0000;
+
+/// The first rule that an image breaks, from 1 to 15, and the least index of a segment, pair or page that
 /// breaks it, or 0.
 #[derive(Clone, Copy, PartialEq, Eq, Debug)]
 pub struct BadImage {
@@ -38,12 +41,13 @@ pub(crate) fn broken_rule(parts: &Parts) -> Option<BadImage>
         unless(is_in_kernel_space(parts)),
         unless(is_direct_map(arch, windows)),
         unless(are_apart(windows)),
+        unless(is_known_paging(arch, parts.sv48)),
     ];
     first_breach(&breaches)
 }
 
 // The first rule that has a place; the rules are numbered from 1 on.
-fn first_breach(breaches: &[Option<usize>; 14]) -> Option<BadImage>
+fn first_breach(breaches: &[Option<usize>; 15]) -> Option<BadImage>
     ensures { result ≡ first_breach 1 breaches.now }
 {
     let mut rule = 1;
@@ -231,7 +235,11 @@ fn is_in_kernel_space(parts: &Parts) -> bool
 fn kernel_start(parts: &Parts) -> u64
     ensures { result ≡ kernel_start_of parts.now }
 {
-    parts.arch.profile().kernel_start
+    if parts.sv48 {
+        SV48_KERNEL_START
+    } else {
+        parts.arch.profile().kernel_start
+    }
 }
 
 fn is_direct_map(arch: Arch, windows: &Windows) -> bool
@@ -257,4 +265,10 @@ fn are_apart(windows: &Windows) -> bool
 {
     let end = kernel_end(windows).min(u128::from(windows.dmapend));
     end <= u128::from(windows.kernbase.max(windows.dmapbase))
+}
+
+fn is_known_paging(arch: Arch, sv48: bool) -> bool
+    ensures { result ≡ is_known_paging arch sv48 }
+{
+    !sv48 || matches!(arch, Arch::Riscv)
 }

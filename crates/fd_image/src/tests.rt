@@ -1,6 +1,7 @@
 //! A small valid image, and what breaks each rule.
 use crate::{BadImage, Image, Memory, Parts, Seg, Sequence, Texts, Windows};
 use fd_bytes::Arch;
+use fd_raw::Region;
 use std::alloc::{AllocError, Global};
 use std::process::Abort;
 use std::test::Fail;
@@ -16,19 +17,23 @@ fn byte_at(at: u64) -> u8 {
     }
 }
 
-fn segment(alloc: Global, start: u64, pages: u64) -> Result<Seg, AllocError> {
-    let mut bytes = Vec::new(alloc);
-    for at in 0..pages.min(6) * 4096 {
-        bytes.push(byte_at(at))?;
+fn fill(bytes: &mut [u8]) {
+    for (at, byte) in bytes.iter_mut().enumerate() {
+        *byte = byte_at(at as u64);
     }
-    let bytes = Sequence::new(bytes);
+}
+
+fn segment(alloc: Global, start: u64, len: usize) -> Result<Seg, AllocError> {
+    let mut bytes = Region::new(alloc, len)?;
+    fill(bytes.view_mut(0, len));
     Ok(Seg { start, bytes })
 }
 
 // The parts of a small valid image, or, for a rule's number, those that break this rule and no earlier one.
 fn image_breaking(alloc: Global, rule: u8) -> Result<Parts, AllocError> {
     Ok(Parts {
-        arch: Arch::Riscv,
+        arch: if rule == 15 { Arch::Arm64 } else { Arch::Riscv },
+        sv48: rule == 15,
         segs: segs_breaking(alloc, rule)?,
         avail: avail_breaking(alloc, rule)?,
         wanted: wanted_breaking(alloc, rule)?,
@@ -41,7 +46,7 @@ fn image_breaking(alloc: Global, rule: u8) -> Result<Parts, AllocError> {
 fn segs_breaking(alloc: Global, rule: u8) -> Result<Sequence<Seg>, AllocError> {
     let mut segs = Vec::new(alloc);
     if rule != 1 {
-        segs.push(segment(alloc, START, 6)?)?;
+        segs.push(segment(alloc, START, 0x6000)?)?;
     }
     let second = match rule {
         2 => START + 0x6001,
@@ -50,7 +55,7 @@ fn segs_breaking(alloc: Global, rule: u8) -> Result<Sequence<Seg>, AllocError> {
         _ => 0,
     };
     if second != 0 {
-        segs.push(segment(alloc, second, 1)?)?;
+        segs.push(segment(alloc, second, 0x1000)?)?;
     }
     Ok(Sequence::new(segs))
 }
@@ -145,6 +150,7 @@ fn each_rule_is_refused_at_its_least_place(rt: HostRuntime) -> Result<(), Fail> 
         (12, 0),
         (13, 0),
         (14, 0),
+        (15, 0),
     ] {
         let bad = refusal(rt.alloc(), rule)?;
         assert_eq!(rt; bad, Some(BadImage { rule, place }), "rule {rule}");
@@ -176,11 +182,28 @@ fn lends_its_pages(rt: &impl Abort, image: &Image) -> Result<(), Fail> {
     Ok(())
 }
 
+fn lends_its_runs(rt: &impl Abort, image: &Image) {
+    let pages = image.pages(START + 0x2fff, 3);
+    assert_eq!(rt; pages.len(), 0x3000);
+    assert_eq!(rt;
+        &pages[0x2000..0x2008],
+        [0, 0x40, 0, 0x80, 0, 0, 0, 0].as_slice()
+    );
+    assert_eq!(rt; image.pages(START + 0x4000, u64::MAX).len(), 0x2000);
+    assert_eq!(rt; image.pages(START, 0).len(), 0);
+    assert_eq!(rt; image.pages(START + 0x6000, 1).len(), 0);
+}
+
+fn lends_its_memory(rt: &impl Abort, image: &Image) -> Result<(), Fail> {
+    lends_its_words(rt, image);
+    lends_its_runs(rt, image);
+    lends_its_pages(rt, image)
+}
+
 #[test]
 fn a_valid_image_lends_its_words_and_pages(rt: HostRuntime) -> Result<(), Fail> {
     let image = small_image(rt.alloc())?;
-    lends_its_words(&rt, &image);
-    lends_its_pages(&rt, &image)
+    lends_its_memory(&rt, &image)
 }
 
 fn has_its_ranges(rt: &impl Abort, image: &Image) {
@@ -194,16 +217,43 @@ fn has_its_ranges(rt: &impl Abort, image: &Image) {
 
 fn has_its_numbers(rt: &impl Abort, image: &Image) {
     assert_eq!(rt; image.arch(), Arch::Riscv);
-    assert_eq!(rt; image.levels(), 3);
+    assert!(rt; image.levels() == 3 && !image.sv48());
     assert_eq!(rt; image.root(), START);
     assert_eq!(rt; image.windows().dmapphys, START);
     assert_eq!(rt; image.texts().time, 1_700_000_000);
 }
 
+fn has_its_parts(rt: &impl Abort, image: &Image) {
+    has_its_ranges(rt, image);
+    has_its_numbers(rt, image);
+}
+
 #[test]
 fn a_valid_image_gives_its_parts(rt: HostRuntime) -> Result<(), Fail> {
     let image = small_image(rt.alloc())?;
-    has_its_ranges(&rt, &image);
-    has_its_numbers(&rt, &image);
+    has_its_parts(&rt, &image);
+    Ok(())
+}
+
+// What the levels of a RISC-V image with this kernel window are, or what it is refused for.
+fn levels_of(
+    alloc: Global,
+    sv48: bool,
+    kernbase: u64,
+) -> Result<Result<u32, BadImage>, AllocError> {
+    let mut parts = image_breaking(alloc, 0)?;
+    parts.sv48 = sv48;
+    parts.windows.kernbase = kernbase;
+    Ok(Image::new(parts).map(|image| image.levels()))
+}
+
+#[test]
+fn sv48_has_four_levels_and_begins_lower(rt: HostRuntime) -> Result<(), Fail> {
+    let (sv48, sv39) = (0xffff_8000_8000_0000, 0xffff_ffc0_8000_0000);
+    let too_low = BadImage { rule: 12, place: 0 };
+    assert_eq!(rt; levels_of(rt.alloc(), true, sv48)?, Ok(4));
+    assert_eq!(rt; levels_of(rt.alloc(), true, sv39)?, Ok(4));
+    assert_eq!(rt; levels_of(rt.alloc(), false, sv39)?, Ok(3));
+    assert_eq!(rt; levels_of(rt.alloc(), false, sv48)?, Err(too_low));
     Ok(())
 }

@@ -4,6 +4,7 @@ ghost use Rattle.std.specs.Prelude.{◌<◌, ◌^◌, All};
 ghost use Rattle.fd_image.specs.Image.{AreBytes, IsTyped};
 
 use crate::parts::{Parts, Seg, Texts};
+use fd_raw::Region;
 
 pub(crate) fn is_typed(parts: &Parts)
     ensures { IsTyped parts.now }
@@ -23,6 +24,12 @@ pub(crate) fn is_typed(parts: &Parts)
 fn are_bytes(bytes: &[u8])
     ensures { AreBytes bytes.now }
 {}
+
+fn region_is_typed(bytes: &Region)
+    ensures { AreBytes bytes.now }
+{
+    are_bytes(bytes.view(0, bytes.len()));
+}
 
 fn are_u64(numbers: &[u64])
     ensures { All (λ n. n < 2 ^ 64) numbers.now }
@@ -49,7 +56,7 @@ fn segs_are_typed(segs: &[Seg])
 {
     for seg in segs {
         let _start = seg.start;
-        are_bytes(seg.bytes.as_slice());
+        region_is_typed(&seg.bytes);
     }
 }
 

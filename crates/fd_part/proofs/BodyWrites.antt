@@ -5,21 +5,16 @@ use Rattle.std.proofs.lemmas.List.Folds.{concat-append}
 use Rattle.std.specs.List.{concat}
 use Rattle.fd_site.specs.Journal.{Entry, kept_sectors, sectors_of}
 use Rattle.fd_site.specs.Contents.{Contents, Adds, whole_part, with_entries}
-use Rattle.fd_site.proofs.Told.{with_entries-nil}
+use Rattle.fd_site.proofs.Told.{adds_then, with_entries-nil}
+use Rattle.fd_site.proofs.Written.{in_pieces-append}
 use Rattle.fd_part.specs.Dump.{AllSectors, writes_from}
 use Rattle.fd_part.specs.Writes.{Begins, IsWriteOf, IsWritesOf, Stops}
 use Rattle.fd_part.proofs.Sectors.{kept_sectors-writes_from, length-whole_part}
-use Rattle.fd_part.proofs.Progress.{adds_then, begins_first, begins_then, stops_first, stops_then}
+use Rattle.fd_part.proofs.Progress.{begins_first, begins_then, stops_first, stops_then}
 
 AllSectors-append : (ps qs : List (List ℕ)) → AllSectors ps → AllSectors qs → AllSectors (ps ++ qs)
 AllSectors-append [] qs a b = b
 AllSectors-append (p ∷ ps) qs a b = (a.0, AllSectors-append ps qs a.1 b)
-
-writes_from-append : (at : ℕ) (ps qs : List (List ℕ)) → writes_from at (ps ++ qs) ≡ writes_from at ps ++ writes_from (at + length (concat ps)) qs
-writes_from-append at [] qs = let same : at ≡ at + 0 = omega arith in ap (λ n. writes_from n qs) same
-writes_from-append at (p ∷ ps) qs =
-    let same : at + length p + length (concat ps) ≡ at + length (p ++ concat ps) = omega (arith, length-append p (concat ps)) in
-    ap (λ (l : List Entry). whole_part at p ∷ l) (writes_from-append (at + length p) ps qs ∙ ap (λ n. writes_from (at + length p) ps ++ writes_from n qs) same)
 
 -- no bytes, one piece, and pieces behind others
 pub no_writes : (at : ℕ) → IsWritesOf at [] []
@@ -35,7 +30,7 @@ writes_joined at next p q us vs place a b = record {
   joined = concat-append a.pieces b.pieces ∙ (λ i. a.joined i ++ b.joined i);
   is =
       (λ i. a.is i ++ (b.is ∙ ap (λ n. writes_from n b.pieces) (place ∙ ap (λ (l : List ℕ). at + length l) (sym a.joined))) i)
-      ∙ sym (writes_from-append at a.pieces b.pieces);
+      ∙ sym (in_pieces-append whole_part at a.pieces b.pieces);
 }
 
 -- their sectors are those of the bytes

@@ -7,7 +7,7 @@ use Rattle.fd_site.specs.Begun.{IsBegun}
 use Rattle.fd_site.specs.Journal.{Entry, Part, Sector, all_kept, kept_sectors}
 use Rattle.fd_site.specs.Contents.{Contents, Adds, IsFailedPart, whole_part, with_entries}
 use Rattle.fd_site.proofs.Begun.{IsBegun-behind, IsBegun-within}
-use Rattle.fd_site.proofs.Told.{with_entries-append, with_entries-nil}
+use Rattle.fd_site.proofs.Told.{behind, with_entries-nil}
 use Rattle.fd_part.specs.Writes.{Begins, IsWriteOf, Stops}
 use Rattle.fd_part.proofs.Sectors.{kept_sectors-append, kept_sectors-one, length-whole_part, whole_part-front}
 
@@ -39,19 +39,13 @@ module _ (P R : List Entry → Type 0) (more : List Entry) (joins : (us : List E
 
 -- what was planned before is done
 module _ (P Q R : List Entry → Type 0) (joins : (us vs : List Entry) → P us → Q vs → R (us ++ vs)) (old mid new : Option Contents) (done : Adds P old mid) where
-  pub behind : (more : List Entry) → new ≡ with_entries mid more → new ≡ with_entries old (done.0 ++ more)
-  behind more told = told ∙ ap (λ t. with_entries t more) done.2 ∙ with_entries-append old done.0 more
-
-  pub adds_then : Adds Q mid new → Adds R old new
-  adds_then more = (done.0 ++ more.0, joins done.0 more.0 done.1 more.1, behind more.0 more.2)
-
   abbrev pub begins_then : Begins Q mid new → Begins R old new
   begins_then b = record {
     planned = done.0 ++ b.planned;
     is_planned = joins done.0 b.planned done.1 b.is_planned;
     added = done.0 ++ b.added;
     begun = IsBegun-behind done.0 b.planned b.added b.begun;
-    told = behind b.added b.told;
+    told = behind P Q R joins old mid new done b.added b.told;
   }
 
   pub stops_then : (count : ℕ) → ((us : List Entry) → P us → length (kept_sectors us) ≡ count) → (n left : ℕ) → n + count ≡ left → Stops Q n mid new → Stops R left old new

@@ -4,6 +4,7 @@ use Rattle.std.proofs.Common.{IsTrue, refl, sym, ◌∙◌, ap, subst, arith, le
 use Rattle.fd_site.specs.Journal.{Entry, Sector, kept_sectors, sectors_of}
 use Rattle.fd_site.specs.Contents.{Contents, Adds, whole_part, with_entries}
 use Rattle.fd_site.proofs.Begun.{IsBegun-whole}
+use Rattle.fd_site.proofs.Told.{adds_then}
 use Rattle.fd_kdh.specs.declared.header.Header.{Header}
 use Rattle.fd_kdh.specs.Header.{FitsFields}
 use Rattle.fd_part.specs.Dump.{IsBegunDump, IsDumpJournal, dump_sectors, header_block, writes_from}
@@ -14,7 +15,7 @@ use Rattle.fd_part.specs.Partition.{is_good, dump_place, leading_place, trailing
 use Rattle.fd_part.specs.Writes.{Begins, IsWriteOf, IsWritesOf, Stops}
 use Rattle.fd_part.proofs.Blocks.{IsBlock-good, length-header_block}
 use Rattle.fd_part.proofs.Sectors.{kept_sectors-append, kept_sectors-one, kept_sectors-writes_from, length-whole_part}
-use Rattle.fd_part.proofs.Progress.{adds_then, begins_first, begins_then, stops_first, stops_then}
+use Rattle.fd_part.proofs.Progress.{begins_first, begins_then, stops_first, stops_then}
 use Rattle.fd_part.proofs.BodyWrites.{count_of_writes}
 
 -- where the code puts the parts, and what it writes as a block

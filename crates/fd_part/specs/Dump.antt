@@ -1,8 +1,8 @@
 -- What the writer of a dump asks of a partition, whole or stopped.
-use Rattle.std.specs.Prelude.{◌≡◌, ℕ, ◌+◌, ◌-◌, ◌%◌, List, [], ◌∷◌, ◌++◌, length, replicate}
+use Rattle.std.specs.Prelude.{◌≡◌, ℕ, ◌-◌, ◌%◌, List, [], ◌∷◌, ◌++◌, length, replicate}
 use Rattle.std.specs.List.{concat}
 use Rattle.fd_site.specs.Begun.{IsBegun}
-use Rattle.fd_site.specs.Journal.{Entry, Sector, sectors_of}
+use Rattle.fd_site.specs.Journal.{Entry, Sector, in_pieces, sectors_of}
 use Rattle.fd_site.specs.Contents.{whole_part}
 use Rattle.fd_kdh.specs.Header.{dump_header}
 use Rattle.fd_kdh.specs.declared.header.Header.{Header}
@@ -14,8 +14,7 @@ header_block h block = dump_header h ++ replicate (block - 512) 0
 
 -- writes of these pieces, each behind the one before
 abbrev pub writes_from : ℕ → List (List ℕ) → List Entry
-writes_from at [] = []
-writes_from at (piece ∷ pieces) = whole_part at piece ∷ writes_from (at + length piece) pieces
+writes_from at pieces = in_pieces whole_part at pieces
 
 -- each piece is of whole sectors
 abbrev pub AllSectors : List (List ℕ) → Type 0

@@ -1,8 +1,9 @@
 -- Small cases of the disk model, computed.
 use Rattle.std.proofs.Common.{◌≡◌, ℕ, true, false, List, [], ◌∷◌, ◌++◌, replicate, codes, Some, None, refl}
-use Rattle.fd_site.specs.Journal.{Part, Create, Write, Sync, Spoiled, written, kept_sectors, file_after, stable_after}
+use Rattle.fd_site.specs.Journal.{Entry, Part, Create, Write, Sync, Spoiled, written, kept_sectors, file_after, stable_after}
 use Rattle.fd_site.specs.Contents.{whole_part}
 use Rattle.fd_site.specs.Cut.{part_cut, stable_at}
+use Rattle.fd_site.specs.FileJournal.{file_writes}
 use Rattle.fd_site.specs.Name.{is_good_name}
 
 -- a file, two sectors of zeros, and two new ones
@@ -44,6 +45,18 @@ spoiled = refl
 
 other_file : file_after core (Some (7 ∷ [])) (Create (codes "bounds") ∷ []) ≡ Some (7 ∷ [])
 other_file = refl
+
+-- a whole file in two pieces, and what it leaves
+whole : List Entry
+whole = Create core ∷ (file_writes core 0 ((7 ∷ 8 ∷ []) ∷ (9 ∷ []) ∷ []) ++ Sync core ∷ [])
+
+whole_journal : whole ≡ Create core ∷ Write core 0 (7 ∷ 8 ∷ []) ∷ Write core 2 (9 ∷ []) ∷ Sync core ∷ []
+unfolding whole
+whole_journal = refl
+
+whole_file : file_after core (Some (1 ∷ [])) whole ≡ Some (7 ∷ 8 ∷ 9 ∷ [])
+unfolding whole
+whole_file = refl
 
 -- a file is stable that has no entry, or whose last one is a sync; a cut within the sync finds it unstable
 untouched : stable_after core true (Create (codes "bounds") ∷ []) ≡ true

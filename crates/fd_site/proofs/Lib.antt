@@ -1,5 +1,7 @@
 pub mod Begun
 pub mod Cuts
 mod Examples
+pub mod FileJournals
+pub mod OnFile
 pub mod Told
 pub mod Written

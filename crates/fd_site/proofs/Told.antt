@@ -1,8 +1,8 @@
 -- What is told after more.
-use Rattle.std.proofs.Common.{◌≡◌, inl, ℕ, List, [], ◌∷◌, ◌++◌, Option, Some, None, refl, sym, ◌∙◌, ap, append_assoc}
+use Rattle.std.proofs.Common.{◌≡◌, inl, ℕ, Bool, if◌then◌else◌, List, [], ◌∷◌, ◌++◌, Option, Some, None, refl, sym, ◌∙◌, ap, append_assoc}
 use Rattle.std.proofs.lemmas.List.{append-nil}
 use Rattle.fd_site.specs.Contents.{Contents, Adds, IsFailedPart, IsFailedFile, part_of, file_of, with_entries}
-use Rattle.fd_site.specs.Journal.{Entry, part_after, file_after, file_step}
+use Rattle.fd_site.specs.Journal.{Entry, part_after, file_after, file_step, is_on, is_sync, stable_after}
 use Rattle.fd_site.specs.Trace.{grown}
 use Rattle.fd_site.proofs.Written.{part_after-append}
 
@@ -28,6 +28,10 @@ pub file_after-append : (q : List ℕ) (f : Option (List ℕ)) (es fs : List Ent
 file_after-append q f [] fs = refl
 file_after-append q f (e ∷ es) fs = file_after-append q (file_step q f e) es fs
 
+pub stable_after-append : (q : List ℕ) (was : Bool) (es fs : List Entry) → stable_after q was (es ++ fs) ≡ stable_after q (stable_after q was es) fs
+stable_after-append q was [] fs = refl
+stable_after-append q was (e ∷ es) fs = stable_after-append q (if is_on q e then is_sync e else was) es fs
+
 -- where contents are told after more entries, they were told before, and are what the entries make of those
 pub record Before (told : Option Contents) (es : List Entry) (now : Contents) : Type 0 where
   pub was : Contents
@@ -52,6 +56,14 @@ before (Some c) es now is = record {
   part = sym (ap told_part is) ∙ part_after-append c.base_part c.journal es;
   file = λ q. sym (ap (told_file q) is) ∙ file_after-append q (c.base_file q) c.journal es;
 }
+
+-- what a call adds behind what was added before it
+module _ (P Q R : List Entry → Type 0) (joins : (us vs : List Entry) → P us → Q vs → R (us ++ vs)) (old mid new : Option Contents) (done : Adds P old mid) where
+  pub behind : (more : List Entry) → new ≡ with_entries mid more → new ≡ with_entries old (done.0 ++ more)
+  behind more told = told ∙ ap (λ t. with_entries t more) done.2 ∙ with_entries-append old done.0 more
+
+  pub adds_then : Adds Q mid new → Adds R old new
+  adds_then more = (done.0 ++ more.0, joins done.0 more.0 done.1 more.1, behind more.0 more.2)
 
 -- a failed call that added nothing
 pub adds_no_part : (at : ℕ) (bytes : List ℕ) (old new : Option Contents) → new ≡ old → Adds (IsFailedPart at bytes) old new

@@ -2,9 +2,9 @@
 use Rattle.std.proofs.Common.{◌≡◌, ℕ, zero, suc, ◌+◌, ◌*◌, ◌/◌, ◌%◌, ◌≤◌, Bool, true, false, List, [], ◌∷◌, ◌++◌, length, take, drop, replicate, refl, sym, ◌∙◌, ap, arith, length-append, length-drop, take-append-drop}
 use Rattle.std.proofs.lemmas.List.{length-take-le}
 use Rattle.std.proofs.lemmas.Slice.{take-put_mid_below, drop-put_mid, between-put_mid}
-use Rattle.std.specs.List.{between}
+use Rattle.std.specs.List.{between, concat}
 use borrow.Rule.Slice.PartMut.{put_mid}
-use Rattle.fd_site.specs.Journal.{Entry, merged, all_kept, written, part_step, part_after}
+use Rattle.fd_site.specs.Journal.{Entry, merged, all_kept, in_pieces, written, part_step, part_after}
 use Rattle.fd_site.specs.Contents.{Contents, part_of, whole_part}
 
 -- what is merged into as many bytes has as many
@@ -67,3 +67,10 @@ between-part_after c at bytes whole le =
     let now : part_after c.base_part (c.journal ++ whole_part at bytes ∷ []) ≡ put_mid at (length bytes) (part_of c) bytes =
     part_after-append c.base_part c.journal (whole_part at bytes ∷ []) ∙ written-all_kept (part_of c) at bytes whole in
     ap (λ (l : List ℕ). between at (at + length bytes) l) now ∙ between-put_mid at (length bytes) (part_of c) bytes (at + length bytes) (omega arith) (omega arith)
+
+-- writes in pieces, one behind the other
+pub in_pieces-append : (entry : ℕ → List ℕ → Entry) (at : ℕ) (ps qs : List (List ℕ)) → in_pieces entry at (ps ++ qs) ≡ in_pieces entry at ps ++ in_pieces entry (at + length (concat ps)) qs
+in_pieces-append entry at [] qs = let same : at ≡ at + 0 = omega arith in ap (λ n. in_pieces entry n qs) same
+in_pieces-append entry at (p ∷ ps) qs =
+    let same : at + length p + length (concat ps) ≡ at + length (p ++ concat ps) = omega (arith, length-append p (concat ps)) in
+    ap (λ (l : List Entry). entry at p ∷ l) (in_pieces-append entry (at + length p) ps qs ∙ ap (λ n. in_pieces entry (at + length p) ps ++ in_pieces entry n qs) same)

@@ -12,6 +12,11 @@ pub data Entry : Type 0 where
   Sync : (name : List ℕ) → Entry
   Spoiled : (name : List ℕ) (now : Option (List ℕ)) → Entry
 
+-- writes of these pieces, each behind the one before; an entry says what a write of a piece at a place is
+abbrev pub in_pieces : (ℕ → List ℕ → Entry) → ℕ → List (List ℕ) → List Entry
+in_pieces entry at [] = []
+in_pieces entry at (piece ∷ pieces) = entry at piece ∷ in_pieces entry (at + length piece) pieces
+
 -- whole sectors of new bytes, sector by sector the new one where it was kept, else the old one
 abbrev pub merged : List Bool → List ℕ → List ℕ → List ℕ
 merged kept [] old = []

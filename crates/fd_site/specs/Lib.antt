@@ -2,6 +2,7 @@ pub mod Begun
 pub mod Contents
 pub mod Cut
 pub mod Fault
+pub mod FileJournal
 pub mod Journal
 pub mod Name
 pub mod Seen
