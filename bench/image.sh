@@ -1,26 +1,38 @@
 #!/usr/bin/env bash
 # Writes the file of a machine image to standard output: a riscv machine whose page tables are empty. Without an argument
 # it has the six pages of the example in README.md; with a number, so many pages, all of which are wanted, each word its
-# own address. It needs python3.
+# own address. It needs cc.
 set -eu
-python3 - "${1:-0}" <<'PY'
-import struct, sys
+folder=$(mktemp -d)
+trap 'rm -rf "$folder"' EXIT
+cat >"$folder/image.c" <<'C'
+#include <stdint.h>
+#include <stdio.h>
+#include <stdlib.h>
+#include <string.h>
 
-pages = int(sys.argv[1])
-count = pages or 6
-start = 0x80000000
-wanted = range(count) if pages else (1, 2, 4)
-host, version, panic, msgbuf = b"rv", b"FreeBSD 14", b"test", b"panic: test\n"
-out = sys.stdout.buffer
-out.write(b"FD MACHINE IMAGE")
-out.write(struct.pack("<10I", 1, 3, 1, 1, len(wanted), len(host), len(version), len(panic), len(msgbuf), 0))
-out.write(struct.pack("<3Q", start + 4096 * count if pages else start, 0xFFFFFFC000000000, 0x200000))
-out.write(struct.pack("<3Q", 0xFFFFFFD000000000, 0xFFFFFFD000000000 + 4096 * count, start))
-out.write(struct.pack("<5Q", 1700000000, start, 4096 * count, start, start + 4096 * count))
-out.write(struct.pack(f"<{len(wanted)}Q", *(start + 4096 * page for page in wanted)))
-out.write(host + version + panic + msgbuf)
-for page in range(count):
-    first = start + 4096 * page
-    words = range(first, first + 4096, 8) if page in wanted else [0] * 512
-    out.write(struct.pack("<512Q", *words))
-PY
+static void put(uint64_t number, int bytes) {
+    for (; bytes; bytes--, number >>= 8) putchar(number & 255);
+}
+
+int main(int count, char **args) {
+    const char *texts[] = {"rv", "FreeBSD 14", "test", "panic: test\n"};
+    uint64_t given = strtoull(args[1], NULL, 10), pages = given ? given : 6, start = 0x80000000, direct = 0xffffffd000000000;
+    (void)count;
+    fputs("FD MACHINE IMAGE", stdout);
+    put(1, 4), put(3, 4), put(1, 4), put(1, 4), put(given ? pages : 3, 4);
+    for (int i = 0; i < 4; i++) put(strlen(texts[i]), 4);
+    put(0, 4);
+    put(given ? start + 4096 * pages : start, 8), put(0xffffffc000000000, 8), put(0x200000, 8);
+    put(direct, 8), put(direct + 4096 * pages, 8), put(start, 8), put(1700000000, 8);
+    put(start, 8), put(4096 * pages, 8), put(start, 8), put(start + 4096 * pages, 8);
+#define WANTED(page) (given || (page) == 1 || (page) == 2 || (page) == 4)
+    for (uint64_t page = 0; page < pages; page++)
+        if (WANTED(page)) put(start + 4096 * page, 8);
+    for (int i = 0; i < 4; i++) fputs(texts[i], stdout);
+    for (uint64_t pa = start; pa < start + 4096 * pages; pa += 8) put(WANTED((pa - start) / 4096) ? pa : 0, 8);
+    return ferror(stdout) != 0;
+}
+C
+cc -O2 -o "$folder/image" "$folder/image.c"
+"$folder/image" "${1:-0}"

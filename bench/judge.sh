@@ -1,10 +1,9 @@
 #!/usr/bin/env bash
-# `savecore -C` over a sparse partition of 1 TiB, beside dd that reads as many sectors of it: the least milliseconds
-# of a run, the peak memory, and their ratios. The first argument is how many runs are timed (20 if it is left out).
-# It needs GNU time and python3.
+# `savecore -C` over a sparse partition of 1 TiB, beside dd that reads as many sectors of it: processor time, peak memory and
+# their ratio. The first argument is how many runs are timed (21 if it is left out). It needs cc.
 set -eu
 top=$(cd "$(dirname "$0")/.." && pwd)
-runs=${1:-20}
+runs=${1:-21}
 folder=$(mktemp -d)
 trap 'rm -rf "$folder"' EXIT
 . "$top/bench/timing.sh"
@@ -17,7 +16,5 @@ dd if="$small" of="$folder/dumpdev" bs=512 skip=128 seek=$((sectors - 3)) count=
 dd if="$small" of="$folder/dumpdev" bs=512 skip=130 seek=$((sectors - 1)) count=1 conv=notrunc status=none
 
 "$top/crashway" "$folder" 512 savecore -C
-ours=("$top/crates/fd_tool/out/fd_tool" "$folder" 512 savecore -C)
-theirs=(dd "if=$folder/dumpdev" of=/dev/null bs=512 "skip=$((sectors - 3))" count=2 status=none)
-
-compare 'savecore -C' dd
+alternate -- 'savecore -C' "$top/crates/fd_tool/out/fd_tool" "$folder" 512 savecore -C \
+    -- dd dd "if=$folder/dumpdev" of=/dev/null bs=512 "skip=$((sectors - 3))" count=2 status=none

@@ -1,32 +1,72 @@
-# Sourced by the scripts beside it: what a command costs. `runs` is how many runs are timed, `folder` a folder of the
-# script's own. It needs GNU time and python3.
+# Sourced by the scripts beside it: what commands cost, one beside the other. `runs` is how many runs are timed, `folder` a
+# folder of the script's own. It needs cc.
 
-# the least milliseconds of a run
-milliseconds() {
-    python3 - "$runs" "$@" <<'PY'
-import subprocess, sys, time
+cat >"$folder/alternate.c" <<'C'
+#define _GNU_SOURCE
+#include <fcntl.h>
+#include <spawn.h>
+#include <stdio.h>
+#include <stdlib.h>
+#include <string.h>
+#include <sys/resource.h>
+#include <sys/wait.h>
 
-runs, command = int(sys.argv[1]), sys.argv[2:]
-times = []
-for _ in range(runs):
-    begin = time.perf_counter()
-    subprocess.run(command, stdout=subprocess.DEVNULL, check=True)
-    times.append(time.perf_counter() - begin)
-print(f"{min(times) * 1000:.2f}")
-PY
+enum { MOST_COMMANDS = 8 };
+extern char **environ;
+
+static struct command { char *name, **words; double *seconds, *ratios; long peak; } commands[MOST_COMMANDS];
+
+static double in_seconds(struct timeval time) { return time.tv_sec + time.tv_usec / 1e6; }
+
+static void run(struct command *command, int round) {
+    posix_spawn_file_actions_t files;
+    posix_spawn_file_actions_init(&files);
+    posix_spawn_file_actions_addopen(&files, 1, "/dev/null", O_WRONLY, 0);
+    pid_t pid;
+    int status;
+    struct rusage used;
+    if (posix_spawnp(&pid, command->words[0], &files, NULL, command->words, environ) != 0 ||
+        wait4(pid, &status, 0, &used) != pid || status != 0) {
+        fprintf(stderr, "%s didn't end with status 0\n", command->name);
+        exit(1);
+    }
+    command->seconds[round] = in_seconds(used.ru_utime) + in_seconds(used.ru_stime);
+    if (used.ru_maxrss > command->peak) command->peak = used.ru_maxrss;
 }
 
-# the peak memory of a run
-kibibytes() {
-    /usr/bin/time -f %M -o "$folder/peak" "$@" >/dev/null
-    cat "$folder/peak"
+static int compare(const void *a, const void *b) {
+    double x = *(const double *)a, y = *(const double *)b;
+    return (x > y) - (x < y);
 }
 
-# the two commands in the arrays `ours` and `theirs`, under these names, and their ratios
-compare() {
-    local our_time their_time our_peak their_peak
-    our_time=$(milliseconds "${ours[@]}") their_time=$(milliseconds "${theirs[@]}")
-    our_peak=$(kibibytes "${ours[@]}") their_peak=$(kibibytes "${theirs[@]}")
-    printf '%-12s %10s ms %10s KiB\n' "$1" "$our_time" "$our_peak" "$2" "$their_time" "$their_peak"
-    awk "BEGIN { printf \"%-12s %10.2f    %10.2f\n\", \"ratio\", $our_time / $their_time, $our_peak / $their_peak }"
+static double median(double *numbers, int count) {
+    qsort(numbers, count, sizeof *numbers, compare);
+    return (numbers[(count - 1) / 2] + numbers[count / 2]) / 2;
 }
+
+/* RUNS, and then for each command `--`, its name and its words */
+int main(int count, char **args) {
+    int runs = atoi(args[1]), known = 0;
+    for (int i = 2; i < count; i++) {
+        if (strcmp(args[i], "--")) continue;
+        args[i] = NULL;
+        commands[known++] = (struct command){args[i + 1], args + i + 2, calloc(runs, 8), calloc(runs, 8), 0};
+    }
+    for (int round = 0; round < runs; round++)
+        for (int i = 0; i < known; i++) run(commands + i, round);
+    for (int i = 0; i < known; i++)
+        for (int round = 0; round < runs; round++)
+            commands[i].ratios[round] = commands[0].seconds[round] / commands[i].seconds[round];
+    for (int i = 0; i < known; i++) {
+        struct command *command = commands + i;
+        printf("%-14s %10.2f ms %10ld KiB", command->name, median(command->seconds, runs) * 1000, command->peak);
+        if (i > 0) printf("   %s is %.2f of it", commands[0].name, median(command->ratios, runs));
+        putchar('\n');
+    }
+}
+C
+cc -O2 -Wall -Werror -o "$folder/alternate" "$folder/alternate.c"
+
+# alternate -- NAME WORDS.. -- NAME WORDS.. ..: runs the commands in turn, and says for each the median of its processor
+# time, its peak memory, and the median ratio of the first one's time to its own in the same round.
+alternate() { "$folder/alternate" "$runs" "$@"; }

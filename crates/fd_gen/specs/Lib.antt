@@ -1,0 +1,5 @@
+-- The definitions that contracts cite.
+pub mod Entries
+pub mod Generated
+pub mod Layout
+pub mod Spelled
