@@ -21,6 +21,7 @@ pub record IsReadable (h : MiniHeader) : Type 0 where
   pub typed : IsTyped h
   pub known : IsTrue (has_version h.arch h.version)
   pub no_dmapphys : (layout_of h.arch h.version).has_dmapphys ≡ false → h.dmapphys ≡ 0
+  pub no_dumpavailsize : (layout_of h.arch h.version).has_dumpavailsize ≡ false → h.dumpavailsize ≡ 0
   pub no_flags : (layout_of h.arch h.version).has_flags ≡ false → h.flags ≡ 0
   pub small_granule : h.flags % 4 ≡ 0
   pub avail_within : h.dumpavailsize ≤ 2 ^ 20

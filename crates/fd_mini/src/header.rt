@@ -1,8 +1,8 @@
 //! The fields of a header page.
 use fd_bytes::Arch;
 
-/// The fields of a minidump's header page, with sizes in bytes. A field that the architecture's page doesn't
-/// have is 0.
+/// The fields of a minidump's header page, with sizes in bytes. A field that the page of this architecture and version
+/// doesn't have is 0.
 #[derive(Clone, Copy, PartialEq, Eq, Debug)]
 pub struct MiniHeader {
     pub arch: Arch,

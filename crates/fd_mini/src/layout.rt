@@ -1,6 +1,6 @@
 //! What differs between the header pages of the architectures and of their versions.
 ghost use Rattle.std.specs.Prelude.{◌≡◌, ◌^◌, ◌<◌, ◌≤◌, length};
-ghost use Rattle.fd_mini.specs.Layout.{arch_of_magic, has_version, layout_of, magic_of, unit_of};
+ghost use Rattle.fd_mini.specs.Layout.{arch_of_magic, entry_height_of, has_version, is_current, layout_of, magic_of, unit_of};
 
 use crate::header::MiniHeader;
 use fd_bytes::Arch;
@@ -9,12 +9,20 @@ use fd_bytes::Arch;
 #[derive(Clone, Copy, PartialEq, Eq, Debug)]
 pub(crate) struct Layout {
     pub(crate) has_dmapphys: bool,
+    pub(crate) has_dumpavailsize: bool,
     pub(crate) has_flags: bool,
 }
 
-/// Whether header pages of this version are read and written: whether it is the architecture's current one.
+/// Whether header pages of this version are read: each version from 1 to the architecture's current one is.
 pub fn has_version(arch: Arch, version: u32) -> bool
     ensures { result ≡ has_version arch version }
+{
+    1 <= version && version <= arch.profile().minidump_version
+}
+
+/// Whether header pages of this version are written: the architecture's current one alone is.
+pub fn is_current(arch: Arch, version: u32) -> bool
+    ensures { result ≡ is_current arch version }
 {
     version == arch.profile().minidump_version
 }
@@ -25,16 +33,32 @@ pub(crate) fn layout_of(arch: Arch, version: u32) -> Layout
     match arch {
         Arch::Amd64 => Layout {
             has_dmapphys: false,
+            has_dumpavailsize: 3 <= version,
             has_flags: false,
         },
         Arch::Arm64 => Layout {
             has_dmapphys: true,
+            has_dumpavailsize: 2 <= version,
             has_flags: 3 <= version,
         },
         Arch::Riscv => Layout {
             has_dmapphys: true,
+            has_dumpavailsize: 2 <= version,
             has_flags: false,
         },
+    }
+}
+
+/// The height of the entries of the page directory: the number of tables below them. In amd64's version 1 an entry maps
+/// a page, and from version 2 on it names a table of such entries (`_amd64_minidump_kvatop_v1` of libkvm).
+pub fn entry_height_of(header: &MiniHeader) -> u32
+    ensures value { result ≡ entry_height_of header.now }
+    ensures low { result ≤ 1 }
+{
+    if 2 <= header.version {
+        header.arch.profile().directory_height
+    } else {
+        0
     }
 }
 
@@ -44,7 +68,7 @@ pub fn unit_of(header: &MiniHeader) -> u64
     ensures some { 0 < result }
     ensures small { result ≤ 2 ^ 21 }
 {
-    match header.arch.profile().directory_height {
+    match entry_height_of(header) {
         0 => 1 << 12,
         _ => 1 << 21,
     }

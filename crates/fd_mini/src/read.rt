@@ -60,7 +60,7 @@ fn fields_in(arch: Arch, page: &[u8]) -> MiniHeader
         dmapphys: u64_when(layout.has_dmapphys, page, 48),
         dmapbase: get_u64_le(page, 48 + shift),
         dmapend: get_u64_le(page, 56 + shift),
-        dumpavailsize: get_u32_le(page, 64 + shift),
+        dumpavailsize: u32_when(layout.has_dumpavailsize, page, 64 + shift),
         flags: u32_when(layout.has_flags, page, 68 + shift),
     }
 }

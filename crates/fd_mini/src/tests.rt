@@ -1,8 +1,10 @@
 //! Header pages byte by byte, the places of their sections, and what is refused.
 ghost use Rattle.std.specs.Prelude.{IsTrue};
-ghost use Rattle.fd_mini.specs.Layout.{has_version};
+ghost use Rattle.fd_mini.specs.Layout.{is_current};
 
-use crate::{MiniFault, MiniField, MiniHeader, Places, places_of, read_header, write_header};
+use crate::{
+    MiniFault, MiniField, MiniHeader, Places, places_of, read_header, unit_of, write_header,
+};
 use fd_bytes::Arch;
 
 // The header of a small riscv machine's minidump.
@@ -37,7 +39,7 @@ const AMD: MiniHeader = MiniHeader {
 };
 
 fn written(header: &MiniHeader) -> [u8; 4096]
-    requires { IsTrue (has_version header.now.arch header.now.version) }
+    requires { IsTrue (is_current header.now.arch header.now.version) }
 {
     let mut page = [0xff; 4096];
     write_header(header, &mut page);
@@ -74,6 +76,74 @@ fn each_page_is_read_back(rt: HostRuntime) {
     for header in [SMALL, ARM, AMD] {
         assert_eq!(rt; read_header(&written(&header)), Ok(header));
     }
+}
+
+// What the page of these fields is read as when it bears another version.
+fn read_as(header: &MiniHeader, version: u8) -> Result<MiniHeader, MiniFault>
+    requires { IsTrue (is_current header.now.arch header.now.version) }
+{
+    let mut page = written(header);
+    page[24] = version;
+    read_header(&page)
+}
+
+#[test]
+fn an_older_page_lacks_the_later_fields(rt: HostRuntime) {
+    let no_ranges = MiniHeader {
+        dumpavailsize: 0,
+        ..AMD
+    };
+    let no_flags = MiniHeader { flags: 0, ..ARM };
+    for (header, version, fields) in [
+        (AMD, 1, no_ranges),
+        (AMD, 2, no_ranges),
+        (ARM, 2, no_flags),
+        (
+            ARM,
+            1,
+            MiniHeader {
+                dumpavailsize: 0,
+                ..no_flags
+            },
+        ),
+        (
+            SMALL,
+            1,
+            MiniHeader {
+                dumpavailsize: 0,
+                ..SMALL
+            },
+        ),
+    ] {
+        let older = MiniHeader {
+            version: u32::from(version),
+            ..fields
+        };
+        assert_eq!(rt; read_as(&header, version), Ok(older));
+    }
+}
+
+#[test]
+fn no_other_version_is_known(rt: HostRuntime) {
+    for (header, version) in [
+        (AMD, 0),
+        (AMD, 4),
+        (ARM, 0),
+        (ARM, 4),
+        (SMALL, 0),
+        (SMALL, 3),
+    ] {
+        let unknown = MiniFault::UnknownVersion(u32::from(version));
+        assert_eq!(rt; read_as(&header, version), Err(unknown));
+    }
+}
+
+#[test]
+fn an_entry_maps_a_page_or_a_table_of_pages(rt: HostRuntime) {
+    let first = MiniHeader { version: 1, ..AMD };
+    let second = MiniHeader { version: 2, ..AMD };
+    assert_eq!(rt; (unit_of(&first), unit_of(&second)), (4096, 1 << 21));
+    assert_eq!(rt; (unit_of(&ARM), unit_of(&SMALL)), (4096, 4096));
 }
 
 #[test]

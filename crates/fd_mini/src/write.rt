@@ -1,17 +1,17 @@
 //! Writing a header page.
 ghost use Rattle.std.specs.Prelude.{◌≡◌, ◌+◌, ◌≤◌, ◌++◌, length, IsTrue};
 ghost use Rattle.std.specs.Int.{w32, w64, to_le_bytes};
-ghost use Rattle.fd_mini.specs.Layout.{has_version};
+ghost use Rattle.fd_mini.specs.Layout.{is_current};
 ghost use Rattle.fd_mini.specs.Page.{page_of, when};
 
 use crate::header::MiniHeader;
 use crate::layout::{layout_of, magic_of};
 use fd_bytes::Page;
 
-/// Writes the header page of these fields, with zeros after the last. The version has to be one of the
-/// architecture's that are known.
+/// Writes the header page of these fields, with zeros after the last. The version has to be the architecture's current
+/// one.
 pub fn write_header(header: &MiniHeader, out: &mut [u8; 4096])
-    requires { IsTrue (has_version header.now.arch header.now.version) }
+    requires { IsTrue (is_current header.now.arch header.now.version) }
     ensures { out.new ≡ page_of header.now }
 {
     let layout = layout_of(header.arch, header.version);
@@ -25,7 +25,7 @@ pub fn write_header(header: &MiniHeader, out: &mut [u8; 4096])
     put_u64_when(&mut page, layout.has_dmapphys, header.dmapphys);
     page.put_u64_le(header.dmapbase);
     page.put_u64_le(header.dmapend);
-    page.put_u32_le(header.dumpavailsize);
+    put_u32_when(&mut page, layout.has_dumpavailsize, header.dumpavailsize);
     put_u32_when(&mut page, layout.has_flags, header.flags);
     *out = *page.bytes();
 }
@@ -33,7 +33,8 @@ pub fn write_header(header: &MiniHeader, out: &mut [u8; 4096])
 // Appends the number where the page has the field.
 fn put_u32_when(page: &mut Page<4096>, has_field: bool, value: u32)
     requires { length page.old + 4 ≤ 4096 }
-    ensures { page.new ≡ page.old ++ when has_field (to_le_bytes w32 value) }
+    ensures bytes { page.new ≡ page.old ++ when has_field (to_le_bytes w32 value) }
+    ensures len { length page.new ≤ length page.old + 4 }
 {
     if has_field {
         page.put_u32_le(value);

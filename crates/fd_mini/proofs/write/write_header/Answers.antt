@@ -8,8 +8,8 @@ unfolding page_of
 returns c =
     rw (
       c.bytes.ensures.bytes,
-      c.put_u32_when.ensures,
-      c.put_u32_le-5.ensures.bytes,
+      c.put_u32_when-2.ensures.bytes,
+      c.put_u32_when.ensures.bytes,
       c.put_u64_le-3.ensures.bytes,
       c.put_u64_le-2.ensures.bytes,
       c.put_u64_when.ensures.bytes,
