@@ -78,9 +78,9 @@ pub record Call (row : Row) (old new : Outside) (status : ℕ) : Type 0 where
   pub kept : Kept row.blames old.reach new.reach
   pub sink : old.sink.faults ≤ new.sink.faults
 
--- the bytes of an answer end at 2^64 or below
+-- a file's name in it has at most 64 bytes, and the bytes that were read end at 2^64 or below
 abbrev pub IsPrintable : Answer → Type 0
-IsPrintable (Made file len) = Unit {0}
+IsPrintable (Made file len) = length file ≤ 64
 IsPrintable (Dump len) = Unit {0}
 IsPrintable (Dumped len) = Unit {0}
 IsPrintable (Read address bytes) = address + length bytes ≤ 2 ^ 64

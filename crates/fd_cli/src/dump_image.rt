@@ -3,7 +3,7 @@
 ghost use Rattle.std.specs.Prelude.{◌≡◌, ◌≤◌, ◌⊎◌, ℕ, Err, length, IfOk, IsErrOf, IsTrue};
 ghost use Rattle.fd_site.specs.Fault.{Rose};
 ghost use Rattle.fd_site.specs.Seen.{Frame, Untouched};
-ghost use Rattle.fd_dump.specs.Minidump.{minidump_of};
+ghost use Rattle.fd_dump.specs.Plan.{IsPlanOf};
 ghost use Rattle.fd_imgfile.specs.declared.fault.ImageFault.TheVariants.{SiteFault};
 ghost use Rattle.fd_part.specs.Partition.{is_good};
 ghost use Rattle.fd_cli.specs.Reply.{IsReplyOf, WorksOnSite};
@@ -54,7 +54,7 @@ fn write_plan<S: Site>(
     plan: &Plan,
 ) -> Result<Reply, Trouble>
     requires partition { IsTrue (is_good (S.seen site.old).size (S.seen site.old).block) }
-    requires plan { plan.now ≡ minidump_of image.now }
+    requires plan { IsPlanOf plan.now image.now }
     ensures works { WorksOnSite (image_dump_row image.now) (S.seen site.old) (S.seen site.new) result }
     ensures frame { Frame (S.seen site.old) (S.seen site.new) }
     ensures cause { IsErrOf result Trouble.Fault → Rose (S.seen site.old).faults (S.seen site.new).faults }

@@ -16,6 +16,7 @@ mod reply;
 mod run;
 mod source;
 pub mod status;
+mod text;
 mod word;
 
 pub use answer::Answer;

@@ -7,17 +7,16 @@ ghost use Rattle.fd_site.specs.Seen.{Frame};
 ghost use Rattle.fd_cli.specs.Reply.{WorksOnSite};
 ghost use Rattle.fd_cli.specs.Rows.Image.{image_row};
 
-use crate::answer::Answer;
 use crate::reply::{Reply, Trouble};
+use crate::text::image_line;
 use crate::word::Word;
 use fd_bytes::Arch;
 use fd_gen::make;
-use fd_imgfile::{file_length, write_image};
+use fd_imgfile::write_image;
 use fd_site::{Site, SiteFault};
 use std::alloc::Global;
 
-/// `image ARCH NUMBER FILE`: writes the image that is made of a number. The reply is made first, so that no memory is
-/// wanted behind a write.
+/// `image ARCH NUMBER FILE`: writes the image that is made of a number. All memory is taken before the first write.
 pub(crate) fn make_image<S: Site>(
     alloc: Global,
     site: &mut S,
@@ -31,13 +30,8 @@ pub(crate) fn make_image<S: Site>(
     ensures cause { IsErrOf result Trouble.Fault → Rose (S.seen site.old).faults (S.seen site.new).faults }
 {
     let image = make(alloc, arch, number)?;
-    let answer = Answer::Made {
-        file: file.copy(alloc)?,
-        length: file_length(&image),
-    };
-    let reply = Reply::new(alloc, &answer)?;
     match write_image(site, file.as_str(), &image) {
-        Ok(_) => Ok(reply),
+        Ok(length) => Ok(Reply::done(image_line(file, length))),
         Err(SiteFault) => Err(Trouble::Fault),
     }
 }

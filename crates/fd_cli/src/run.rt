@@ -108,7 +108,7 @@ fn carry_out<S: Site, L: Link, P: Ports, O: Sink>(
         Err(Trouble::Fault) => return status::FAULT,
         Err(Trouble::NoMemory) => return status::MEMORY,
     };
-    match out.put(reply.text.as_bytes()) {
+    match out.put(reply.text.as_slice()) {
         Ok(()) => reply.status,
         Err(_) => status::FAULT,
     }
