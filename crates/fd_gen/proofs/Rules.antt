@@ -1,6 +1,7 @@
 -- A generated image keeps each rule of an image.
 use Rattle.std.proofs.Common.{◌≡◌, ℕ, ◌+◌, ◌-◌, ◌*◌, ◌/◌, ◌%◌, ◌^◌, ◌<◌, ◌≤◌, ◌==◌, ◌&&◌, Bool, true, false, not, nat_le, List, [], ◌∷◌, length, map, Option, None, refl, arith, lit<, lit≤}
-use Rattle.std.specs.List.{sum_by}
+use Rattle.std.specs.List.{All, sum_by}
+use Rattle.std.proofs.lemmas.List.Elements.{All-from_recursion}
 use Rattle.std.specs.Fmt.{decimal}
 use Rattle.std.proofs.lemmas.Bool.Decides.{nat_tests}
 use Rattle.std.proofs.lemmas.Fmt.{length-decimal-le}
@@ -122,7 +123,7 @@ record AreInOrder (a b c : Seg) (pages_a pages_b pages_c : ℕ) : Type 0 where
   c_end : page_c + pages_c ≤ 2 ^ 20
 
 module _ (a b c : Seg) (pages_a pages_b pages_c : ℕ) (are : AreInOrder a b c pages_a pages_b pages_c) where
-  segs : List Seg
+  abbrev segs : List Seg
   segs = a ∷ b ∷ c ∷ []
 
   a_before_b : end_of a ≤ b.start
@@ -132,35 +133,28 @@ module _ (a b c : Seg) (pages_a pages_b pages_c : ℕ) (are : AreInOrder a b c p
   b_before_c = omega arith
 
   segs-whole : ragged_segment segs ≡ None
-  unfolding segs
   segs-whole = passed is_whole_pages a b c (whole a are.page_a pages_a are.is_a) (whole b are.page_b pages_b are.is_b) (whole c are.page_c pages_c are.is_c)
 
   segs-in_order : segment_out_of_order segs ≡ None
-  unfolding segs
   segs-in_order = passed begins_at_or_after (0, a) (end_of a, b) (end_of b, c) (after 0 a (omega arith)) (after (end_of a) b a_before_b) (after (end_of b) c b_before_c)
 
   segs-within : (arch : Arch) → segment_past_end arch segs ≡ None
-  unfolding segs
   segs-within arch =
       passed (λ seg. nat_le (end_of seg) (profile_of arch).physical_end) a b c
       (below arch a (omega arith)) (below arch b (omega arith)) (below arch c (omega arith))
 
   pairs-whole : ragged_pair (map extent_of segs) ≡ None
-  unfolding segs
   pairs-whole = passed is_range_of_pages (extent_of a) (extent_of b) (extent_of c) (range a are.page_a pages_a are.is_a) (range b are.page_b pages_b are.is_b) (range c are.page_c pages_c are.is_c)
 
   pairs-in_order : pair_out_of_order (map extent_of segs) ≡ None
-  unfolding segs
   pairs-in_order =
       passed pair_begins_at_or_after (0, extent_of a) (end_of a, extent_of b) (end_of b, extent_of c)
       (pair_after 0 a (omega arith)) (pair_after (end_of a) b a_before_b) (pair_after (end_of b) c b_before_c)
 
   pairs-inside : pair_outside segs (map extent_of segs) ≡ None
-  unfolding segs
   pairs-inside = passed (lies_in_segment segs) (extent_of a) (extent_of b) (extent_of c) (grind (arith, nat_tests)) (grind (arith, nat_tests)) (grind (arith, nat_tests))
 
   segs-total : sum_by (λ seg. length seg.bytes) segs ≡ 4096 * (pages_a + pages_b + pages_c)
-  unfolding segs
   segs-total = omega arith
 
 -- the segments of a generated image
@@ -182,6 +176,18 @@ generated-in_order arch number =
       c_end = omega arith;
     }
 
+within_limits : (arch : Arch) (number : ℕ) → number < 2 ^ 64 → is_within_limits (generated arch number) ≡ true
+unfolding generated segments
+within_limits arch number fits =
+    let pages = data_pages number in
+    let a = table_segment arch pages in
+    let b = data_segment number 0x9000_0000 (first_pages pages) in
+    let c = data_segment number 0xa000_0000 (pages - first_pages pages) in
+    let total = segs-total a b c (upper_tables arch + last_tables pages) (first_pages pages) (pages - first_pages pages) (generated-in_order arch number) in
+    let few : sum_by (λ (seg : Seg). length seg.bytes) (a ∷ b ∷ c ∷ []) ≤ 2 ^ 30 = omega (arith, total, tables-few arch) in
+    let some : length (wanted_pages pages) ≤ 262144 = omega (arith, wanted_pages-few pages (omega arith)) in
+    limits (sum_by (λ (seg : Seg). length seg.bytes) (a ∷ b ∷ c ∷ [])) (length (wanted_pages pages)) (has_texts_within_limits (texts_of number)) few some (short_texts number fits)
+
 pub generated-unbroken : (arch : Arch) (number : ℕ) → number < 2 ^ 64 → broken_rule (generated arch number) ≡ None
 unfolding broken_rule breaches generated segments
 generated-unbroken arch number fits =
@@ -196,7 +202,22 @@ generated-unbroken arch number fits =
     let few : pages < 2 ^ 15 = omega arith in
     none_broken _ _ _ _ _ _ _ _ _ _ _ _ _ _ _
     refl (segs-whole a b c na nb nc are) (segs-in_order a b c na nb nc are) (segs-within a b c na nb nc are arch)
-    (kept _ (limits _ _ _ (omega (arith, segs-total a b c na nb nc are, tables-few arch)) (omega (arith, wanted_pages-few pages few)) (short_texts number fits)))
+    (kept _ (within_limits arch number fits))
     (pairs-whole a b c na nb nc are) (pairs-in_order a b c na nb nc are) (pairs-inside a b c na nb nc are)
     (wanted_pages-good pages few) refl (kept _ (kernel_window pages few arch)) (kept _ (kernel_space arch number))
     (kept _ (direct_map pages few arch)) (kept _ (windows_apart pages few arch)) refl
+
+-- no segment reaches past 2^64
+low : (seg : Seg) (page pages : ℕ) → IsSegment seg page pages → page + pages ≤ 2 ^ 20 → end_of seg < 2 ^ 64
+low seg page pages is below_end = omega arith
+
+pub segments-low : (arch : Arch) (number : ℕ) → All (λ seg. end_of seg < 2 ^ 64) (segments arch number)
+unfolding segments
+segments-low arch number =
+    let pages = data_pages number in
+    let a = table_segment arch pages in
+    let b = data_segment number 0x9000_0000 (first_pages pages) in
+    let c = data_segment number 0xa000_0000 (pages - first_pages pages) in
+    let are = generated-in_order arch number in
+    All-from_recursion (λ (seg : Seg). end_of seg < 2 ^ 64) (a ∷ b ∷ c ∷ [])
+    (low a are.page_a _ are.is_a (omega arith), (low b are.page_b _ are.is_b (omega arith), (low c are.page_c _ are.is_c (omega arith), tt)))

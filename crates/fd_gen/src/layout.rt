@@ -10,10 +10,12 @@ pub const TABLES: u64 = 0x8000_0000;
 
 /// The physical addresses of the two segments of data.
 pub const FIRST_DATA: u64 = 0x9000_0000;
+
 pub const SECOND_DATA: u64 = 0xa000_0000;
 
 /// The bytes of a page, and the entries of a table.
 const PAGE: u64 = 4096;
+
 pub const ENTRIES: u64 = 512;
 
 /// The bytes that an entry of height 1 reaches.

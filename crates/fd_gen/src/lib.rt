@@ -5,8 +5,8 @@
 
 mod data;
 mod entries;
+mod image;
 mod layout;
-mod make;
 mod ranges;
 mod segment;
 mod tables;
@@ -14,4 +14,4 @@ mod tables;
 mod tests;
 mod texts;
 
-pub use make::make;
+pub use image::make;

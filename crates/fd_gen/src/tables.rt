@@ -3,7 +3,9 @@ ghost use Rattle.std.specs.Prelude.{◌≡◌, ◌^◌, ◌<◌, ◌≤◌};
 ghost use Rattle.fd_gen.specs.Entries.{kernel_index, upper_entry, directory_entry, last_entry};
 
 use crate::entries::{large_entry, page_entry, table_entry};
-use crate::layout::{ENTRIES, FIRST_DATA, data_address, kernel_base, last_tables, table_address, upper_tables};
+use crate::layout::{
+    ENTRIES, FIRST_DATA, data_address, kernel_base, last_tables, table_address, upper_tables,
+};
 use crate::segment::Words;
 use fd_bytes::Arch;
 

@@ -12,8 +12,8 @@ loop-page-preserved c =
     let now = c.loop-page.wanted.items in
     elim c.if-page-eq2.branch [
       | then-page-eq2+in_ok-push w ↦
-        wanted_among-taken pages page w.data_address.result now c.if-page-eq2.wanted.items c.loop-page.invariant w.if-page-eq2.true w.data_address.ensures.value
-        (ap (λ v. v.items) w.wanted-is ∙ w.in_ok-push.ensures.items)
+          wanted_among-taken pages page w.data_address.result now c.if-page-eq2.wanted.items c.loop-page.invariant w.if-page-eq2.true w.data_address.ensures.value
+          (ap (λ v. v.items) w.wanted-is ∙ w.in_ok-push.ensures.items)
       | else-page-eq2 w ↦ ap (λ v. v.items) w.wanted-is ∙ wanted_among-passed pages page now c.loop-page.invariant w.if-page-eq2.false
     ]
 

@@ -3,7 +3,9 @@ ghost use Rattle.std.specs.Prelude.{◌≡◌, IfOk};
 ghost use Rattle.fd_gen.specs.Generated.{generated, segments};
 
 use crate::data::Data;
-use crate::layout::{FIRST_DATA, SECOND_DATA, TABLES, data_pages, first_pages, last_tables, upper_tables, windows_of};
+use crate::layout::{
+    FIRST_DATA, SECOND_DATA, TABLES, data_pages, first_pages, last_tables, upper_tables, windows_of,
+};
 use crate::ranges::{extents, wanted_pages};
 use crate::segment::segment;
 use crate::tables::Tables;
