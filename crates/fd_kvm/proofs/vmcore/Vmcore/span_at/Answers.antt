@@ -4,7 +4,7 @@ use Rattle.fd_mini.specs.declared.header.MiniHeader.{MiniHeader}
 use Rattle.fd_kvm.specs.Place.{is_in_direct_map}
 use Rattle.fd_kvm.specs.Runs.{is_by_window, up_to}
 use Rattle.fd_kvm.proofs.Placed.{direct_next, outside}
-use Rattle.fd_kvm.proofs.reader.Kvm.span_at.Goals as goal
+use Rattle.fd_kvm.proofs.vmcore.Vmcore.span_at.Goals as goal
 
 pub returns-then-is_in_direct_map-clause-span : goal.returns-then-is_in_direct_map-clause-span
 returns-then-is_in_direct_map-clause-span g c told is f there i within =

@@ -3,7 +3,7 @@ use Rattle.std.proofs.Common.{◌%◌, sym, subst, ◌+◌}
 use Rattle.fd_kvm.specs.Answer.{byte_in}
 use Rattle.fd_kvm.specs.Runs.{IsRun}
 use Rattle.fd_kvm.proofs.Located.{dumped, undumped}
-use Rattle.fd_kvm.proofs.reader.Kvm.run_of.Goals as goal
+use Rattle.fd_kvm.proofs.vmcore.Vmcore.run_of.Goals as goal
 
 pub returns-in-Some-clause-run : goal.returns-in-Some-clause-run
 returns-in-Some-clause-run c f stands is =

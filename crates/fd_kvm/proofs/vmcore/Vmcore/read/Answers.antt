@@ -7,12 +7,13 @@ use Rattle.fd_kvm.specs.Answer.{byte_in, bytes_in}
 use Rattle.fd_kvm.specs.Reader.{IsRead}
 use Rattle.fd_kvm.specs.Runs.{IsFront, IsStep}
 use Rattle.fd_kvm.proofs.Fronts.{front_none, front_more, ended_read, rest_written}
-use Rattle.fd_kvm.proofs.reader.Kvm.read.Goals as goal
+use Rattle.fd_kvm.proofs.vmcore.Vmcore.read.Goals as goal
 
 pub loop-at-init : goal.loop-at-init
 loop-at-init g c = record {
   inside = omega arith;
   front = λ told is f there. front_none (byte_in f c.args.self.now.sections) c.args.va c.args.out.now;
+  stands = c.requires;
   untouched = record { told = refl; size = refl; block = refl; count = omega arith };
 }
 
@@ -47,6 +48,7 @@ loop-at-preserved g c =
           let step = subst (λ l. IsFront (byte_in f s) (c.args.va + at) l rest count) (take_rest out at) (c.in_ok-at.ensures.step told (inv.untouched.told ∙ is) f there) in
           subst (λ l. IsFront (byte_in f s) c.args.va c.args.out.now l (at + count)) (sym written)
           (front_more (byte_in f s) c.args.va at count c.args.out.now out rest (inv.front told is f there) inv.inside step);
+      stands = c.in_ok-at.ensures.stands;
       untouched =
           let read = c.in_ok-at.ensures.untouched in
           let before = inv.untouched in

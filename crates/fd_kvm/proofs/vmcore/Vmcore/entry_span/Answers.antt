@@ -3,7 +3,7 @@ use Rattle.std.proofs.Common.{sym, subst}
 use Rattle.fd_pte.specs.declared.entry.Kind.{Kind}
 use Rattle.fd_kvm.specs.Place.{by_entry}
 use Rattle.fd_kvm.specs.Runs.{IsSpan}
-use Rattle.fd_kvm.proofs.reader.Kvm.entry_span.Goals as goal
+use Rattle.fd_kvm.proofs.vmcore.Vmcore.entry_span.Goals as goal
 
 pub returns-in-Table-clause-span : goal.returns-in-Table-clause-span
 returns-in-Table-clause-span g c told is f there =
