@@ -32,7 +32,8 @@ word_under-same t height a b (Table table) same = ap (λ n. t.word_at (table + 8
 word_under-same t height a b (Leaf address) same = refl
 word_under-same t height a b Absent same = refl
 
-entry_at-same : (t : PageTables) (low a b : ℕ) → a / bytes_under low ≡ b / bytes_under low
+-- and lead to the same entries there
+pub entry_at-same : (t : PageTables) (low a b : ℕ) → a / bytes_under low ≡ b / bytes_under low
     → (above height : ℕ) → height + above + 1 ≡ t.levels → low ≤ height → entry_at t height a ≡ entry_at t height b
 entry_at-same t low a b same zero height levels at_least =
     entry_at-top t height a (omega arith)

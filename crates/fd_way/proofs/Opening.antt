@@ -1,5 +1,5 @@
 -- Opening an image's minidump finds its header, the pages of its ranges and its bits.
-use Rattle.std.proofs.Common.{◌≡◌, ℕ, zero, suc, ◌+◌, ◌-◌, ◌*◌, ◌<◌, ◌≤◌, ◌^◌, Bool, false, cond, List, ◌++◌, length, take, replicate, None, Result, Ok, refl, sym, ◌∙◌, ap, arith, lit<}
+use Rattle.std.proofs.Common.{◌≡◌, ℕ, zero, suc, ◌+◌, ◌-◌, ◌*◌, ◌<◌, ◌≤◌, ◌^◌, Bool, true, false, cond, List, ◌++◌, length, take, replicate, None, Result, Ok, refl, sym, ◌∙◌, ap, arith, lit<}
 use Rattle.std.specs.Prelude.{◌==◌, if◌then◌else◌}
 use Rattle.std.specs.Int.{div_ceil}
 use Rattle.std.proofs.lemmas.Bool.Decides.{nat_tests}
@@ -17,7 +17,7 @@ use Rattle.fd_mini.specs.Places.{rounded_up, places_of}
 use Rattle.fd_mini.specs.Read.{header_in}
 use Rattle.fd_mini.specs.Readable.{IsReadable}
 use Rattle.fd_mini.specs.declared.header.MiniHeader.{MiniHeader}
-use Rattle.fd_mini.proofs.Layouts.{current_is_known}
+use Rattle.fd_mini.proofs.Layouts.{current_has_dumpavailsize, current_is_known}
 use Rattle.fd_vmcore.specs.Ranges.{pairs_in, ranges_of, pages_in}
 use Rattle.fd_vmcore.specs.Sections.{Sections, bits_in, pages_end, long_enough, by_pages, bad_range, by_ranges, by_header, opened}
 use Rattle.fd_vmcore.specs.declared.open.OpenFault.{OpenFault}
@@ -103,6 +103,7 @@ module _ (m : MachineImage) (valid : IsValid m) where
         };
         known = current_is_known m.arch;
         no_dmapphys = λ none. windows.unshifted (dmapphys_kept m.arch header.version ∙ none);
+        no_dumpavailsize = λ none. let e : true ≡ false = sym (current_has_dumpavailsize m.arch) ∙ none in cc;
         no_flags = λ none. refl;
         small_granule = refl;
         avail_within = ranges_short;

@@ -2,27 +2,13 @@
 use Rattle.std.proofs.Common.{◌≡◌, ℕ, zero, suc, ◌+◌, ◌-◌, ◌*◌, ◌/◌, ◌%◌, ◌<◌, ◌≤◌, ◌^◌, Option, Some, None, refl, sym, ◌∙◌, ap, subst, arith, inl, inr}
 use Rattle.std.specs.Option.{option_or}
 use Rattle.std.proofs.lemmas.Bool.{cases_lt}
-use Rattle.std.proofs.lemmas.Nat.{shr-shr}
 use Rattle.fd_pte.specs.declared.entry.Kind.{Kind}
 use Rattle.fd_pte.specs.declared.entry.Kind.TheVariants.{Absent, Table, Leaf}
-use Rattle.fd_pte.specs.Entry.{bytes_under}
 use Rattle.fd_walk.specs.Descent.{IsTable}
 use Rattle.fd_walk.specs.Leaf.{MappedBy, leaf_of_kind, leaf_of_entry, leaf_of_height, leaf_below, leaf_at}
 use Rattle.fd_walk.specs.PageTables.{PageTables, entry_at, index_at, kind_of_entry, kind_at}
 use Rattle.fd_walk.proofs.TablePath.{word_under, entry_at-top, entry_at-below}
 use Rattle.fd_walk.proofs.Ways.{nothing_below, leaf_below-only}
-
--- addresses with the same quotient by a size have the same quotient by each larger one, and so the same indices
-same_index : (low height va v : ℕ) → low ≤ height → va / bytes_under low ≡ v / bytes_under low → index_at height va ≡ index_at height v
-same_index low height va v above same =
-    let exponent : 12 + 9 * low + 9 * (height - low) ≡ 12 + 9 * height = omega arith in
-    let quotient : va / bytes_under height ≡ v / bytes_under height =
-    ap (λ e. va / 2 ^ e) (sym exponent)
-    ∙ sym (shr-shr va (12 + 9 * low) (9 * (height - low)))
-    ∙ ap (λ n. n / 2 ^ (9 * (height - low))) same
-    ∙ shr-shr v (12 + 9 * low) (9 * (height - low))
-    ∙ ap (λ e. v / 2 ^ e) exponent in
-    ap (λ n. n % 512) quotient
 
 -- an entry below one is found only where that names a table
 word_under-table : (t : PageTables) (height va word : ℕ) (kind : Kind) → word_under t height va kind ≡ Some word → IsTable kind
@@ -30,29 +16,12 @@ word_under-table t height va word (Table table) is = (table, refl)
 word_under-table t height va word (Leaf address) is = cc
 word_under-table t height va word Absent is = cc
 
-word_under-same : (t : PageTables) (height va v : ℕ) (kind : Kind) → index_at height va ≡ index_at height v → word_under t height va kind ≡ word_under t height v kind
-word_under-same t height va v (Table table) same = ap (λ index. t.word_at (table + 8 * index)) same
-word_under-same t height va v (Leaf address) same = refl
-word_under-same t height va v Absent same = refl
-
 -- an entry whose kind isn't absent is one
 entry_of_kind : (kind_of : ℕ → ℕ → Kind) (height table : ℕ) (entry : Option ℕ) → kind_of_entry kind_of height entry ≡ Table table → (bits : ℕ) × (entry ≡ Some bits)
 entry_of_kind kind_of height table None names = cc
 entry_of_kind kind_of height table (Some bits) names = (bits, refl)
 
 module _ (t : PageTables) where
-  -- addresses with the same indices from a height on lead to the same entries there
-  pub entry_at-same : (low va v : ℕ) → va / bytes_under low ≡ v / bytes_under low → (above height : ℕ) → low ≤ height → above + height + 1 ≡ t.levels → entry_at t height va ≡ entry_at t height v
-  entry_at-same low va v same zero height high levels =
-      entry_at-top t height va (omega arith)
-      ∙ ap (λ index. t.word_at (t.root + 8 * index)) (same_index low height va v high same)
-      ∙ sym (entry_at-top t height v (omega arith))
-  entry_at-same low va v same (suc above) height high levels =
-      entry_at-below t height va (omega arith)
-      ∙ ap (λ entry. word_under t height va (kind_of_entry t.kind_of (height + 1) entry)) (entry_at-same low va v same above (height + 1) (omega arith) (omega arith))
-      ∙ word_under-same t height va v (kind_at t (height + 1) v) (same_index low height va v high same)
-      ∙ sym (entry_at-below t height v (omega arith))
-
   -- each entry above an entry names a table
   table_above : (height va bits : ℕ) → height + 1 < t.levels → entry_at t height va ≡ Some bits → IsTable (kind_at t (height + 1) va)
   table_above height va bits within some =

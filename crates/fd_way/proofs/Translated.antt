@@ -20,6 +20,7 @@ use Rattle.fd_walk.specs.Directory.{DirectoryForm, expanded_leaf, entry_or_expan
 use Rattle.fd_walk.specs.Leaf.{MappedBy, leaf_of_kind, leaf_at, last_table, table_of_kind}
 use Rattle.fd_walk.specs.PageTables.{PageTables, entry_at, kind_of_entry, kind_at}
 use Rattle.fd_walk.proofs.DirectoryEntries.{unit_within}
+use Rattle.fd_walk.proofs.Spans.{entry_at-same}
 use Rattle.fd_walk.proofs.TablePath.{word_under, entry_at-below}
 use Rattle.fd_walk.proofs.Ways.{no_table}
 use Rattle.fd_mini.specs.Places.{places_of}
@@ -37,8 +38,8 @@ use Rattle.fd_way.proofs.Located.{IsDumpedAt, IsNotDumped, located}
 use Rattle.fd_way.proofs.Opening.{sections_of}
 use Rattle.fd_way.proofs.SectionPlaces.{Stands-directory}
 use Rattle.fd_way.proofs.Stands.{Stands, Stands-inner, Stands-piece, u64_le_at-Stands, u64_le_at-within}
-use Rattle.fd_way.proofs.TableEntries.{IsLeafOf, entry_at-same, leaf_at-lowest, leaf_at-no_table, none_below, leaf_below-same, leaf_found, entry_short}
-use Rattle.fd_way.proofs.Units.{some_levels, most_levels, placed_kind, zero_absent, IsUnitLeaf, expanded, unit_start, IsInUnit, in_unit, place_in_leaf}
+use Rattle.fd_way.proofs.TableEntries.{IsLeafOf, leaf_at-lowest, leaf_at-no_table, none_below, leaf_below-same, leaf_found, entry_short}
+use Rattle.fd_way.proofs.Units.{some_levels, most_levels, entry_height, placed_kind, zero_absent, IsUnitLeaf, expanded, unit_start, IsInUnit, in_unit, place_in_leaf}
 
 -- a table that isn't dumped is missing where tables ought to be dumped
 missing_nowhere : (m : MachineImage) (last : Option ℕ) → dumps_last_tables m.arch ≡ false → is_table_missing m last ≡ false
@@ -84,6 +85,10 @@ module _ (m : MachineImage) (valid : IsValid m) where
 
   abbrev start : ℕ → ℕ
   start va = unit_start m.arch m.windows.kernbase va
+
+  -- a leaf of the directory's height
+  leaf_is : (va address : ℕ) → by_entry file sections va (Leaf address) ≡ Ok (address + (va - m.windows.kernbase) % unit)
+  leaf_is va address = ap (λ h. Ok (address + (va - m.windows.kernbase) % bytes_under h)) (entry_height m)
 
   short : (h va bits : ℕ) → h < levels_of m → entry_at tables h va ≡ Some bits → bits < 2 ^ 64
   short h va bits within some = entry_short tables (word_short m valid) h va bits within some
@@ -156,7 +161,8 @@ module _ (m : MachineImage) (valid : IsValid m) where
         let kind_is : kind_at tables height va ≡ Leaf address = ap (λ entry. kind_of_entry (kind_of m.arch) height entry) some ∙ is in
         let leaf : leaf_at tables va ≡ Some (record { height = height; bits = bits; address = address }) =
         leaf_at-no_table tables height va bits (some_levels m) some (leaf_names_none address (kind_of m.arch bits height) is) ∙ ap (leaf_of_kind height bits) is in
-        ap (λ n. Ok (address + n)) place.inside
+        leaf_is va address
+        ∙ ap (λ n. Ok (address + n)) place.inside
         ∙ sym (by_tables_is va (Some (record { height = height; bits = bits; address = address })) (none_missing va (leaf_names_none address (kind_at tables height va) kind_is)) leaf)
     by_kind bits (Table table) some is placed = by_last_table va bits table some is placed
     by_kind bits Absent some is placed =
@@ -171,7 +177,7 @@ module _ (m : MachineImage) (valid : IsValid m) where
       names_none = absent_names_none (kind_at tables height va) (ap (λ entry. kind_of_entry (kind_of m.arch) height entry) none)
 
       none_at_start : entry_at tables height (start va) ≡ None
-      none_at_start = sym (entry_at-same tables height va (start va) place.same (levels_of m - height - 1) height (omega arith) (omega (arith, some_levels m))) ∙ none
+      none_at_start = sym (entry_at-same tables height va (start va) place.same (levels_of m - height - 1) height (omega (arith, some_levels m)) (omega arith)) ∙ none
 
       same_leaf : leaf_at tables va ≡ leaf_at tables (start va)
       same_leaf =
@@ -198,6 +204,7 @@ module _ (m : MachineImage) (valid : IsValid m) where
           record {
             fits = leaf_of_unit.fits;
             same = ap (by_entry file sections va) leaf_of_unit.leaf
+                ∙ leaf_is va (leaf.address + index * unit)
                 ∙ ap Ok same_place
                 ∙ sym (by_tables_is va (Some leaf) (none_missing va names_none) (same_leaf ∙ is));
           }
@@ -223,7 +230,7 @@ module _ (m : MachineImage) (valid : IsValid m) where
     agrees : Agrees va (walk.directory_entry tables (form_of m) (start va))
     agrees =
         let same : entry_at tables height va ≡ entry_at tables height (start va) =
-        entry_at-same tables height va (start va) place.same (levels_of m - height - 1) height (omega arith) (omega (arith, some_levels m)) in
+        entry_at-same tables height va (start va) place.same (levels_of m - height - 1) height (omega (arith, some_levels m)) (omega arith) in
         by_option (entry_at tables height (start va)) same
 
     -- the entry is read in the file
@@ -238,11 +245,14 @@ module _ (m : MachineImage) (valid : IsValid m) where
         let piece : Stands (to_le_bytes w64 (entry index)) (8 * index) (directory_of m) =
         subst (λ number. Stands (to_le_bytes w64 (entry number)) (8 * index) (directory_of m)) at
         (Stands-piece (λ (number : ℕ). to_le_bytes w64 (entry number)) 8 (range_with_len 0 (entry_count m)) index 0 (λ number. refl) (omega (arith, length-range_with_len 0 (entry_count m)))) in
-        u64_le_at-Stands file ((places_of header).directory + 8 * index) (entry index)
+        ap (λ h. u64_le_at file ((places_of header).directory + 8 * ((va - m.windows.kernbase) / bytes_under h))) (entry_height m)
+        ∙ u64_le_at-Stands file ((places_of header).directory + 8 * index) (entry index)
         (Stands-inner (to_le_bytes w64 (entry index)) (directory_of m) file (8 * index) (places_of header).directory
         ((places_of header).directory + 8 * index) refl piece (Stands-directory m (windows_of m valid)))
         agrees.fits
 
     pub by_directory_is : index < entry_count m → by_directory file sections va ≡ by_tables m va
     by_directory_is within =
-        ap (λ entry. by_entry file sections va (kind_of m.arch entry height)) (entry_read within) ∙ agrees.same
+        ap (λ h. by_entry file sections va (kind_of m.arch (kvm.directory_entry file header va) h)) (entry_height m)
+        ∙ ap (λ entry. by_entry file sections va (kind_of m.arch entry height)) (entry_read within)
+        ∙ agrees.same
