@@ -10,6 +10,7 @@ use Rattle.fd_mini.specs.Places.{places_of}
 use Rattle.fd_mini.specs.Read.{header_in, of_known_magic, within_limits}
 use Rattle.fd_mini.specs.declared.header.MiniHeader.{MiniHeader}
 use Rattle.fd_mini.specs.declared.mini_fault.MiniFault.{MiniFault}
+use Rattle.fd_mini.specs.declared.places.Places.{Places}
 use Rattle.fd_mini.specs.declared.mini_fault.MiniFault.TheVariants.{UnknownVersion}
 use Rattle.fd_vmcore.specs.Parts.{HasLength, IsReadAs, AreRanges}
 use Rattle.fd_vmcore.specs.Sections.{Sections, IsAnswer, IsOpening, HasSections, long_enough, by_header, by_ranges, bad_range, opened, opened_file}
@@ -26,6 +27,14 @@ long f need answer enough = grind (arith, nat_tests)
 
 pub some_length : (f : List ℕ) (len : ℕ) → HasLength (Some f) len → len ≡ length f
 some_length f len has = cc
+
+-- a file of this length has its sections
+pub sections_inside :
+    (file : Option (List ℕ)) (f : List ℕ) (len : ℕ) (h : MiniHeader) (p : Places)
+    → HasLength file len → file ≡ Some f → p ≡ places_of h → p.pages ≤ len → (places_of h).pages ≤ length f
+sections_inside file f len h p has there same enough =
+    let known : len ≡ length f = some_length f len (subst (λ file. HasLength file len) there has) in
+    subst (λ n. (places_of h).pages ≤ n) known (subst (λ (p : Places). p.pages ≤ len) same enough)
 
 -- a file without a whole header page
 pub without_page :

@@ -18,6 +18,16 @@ use fd_mini::{MiniHeader, places_of};
 use fd_site::Site;
 use std::alloc::{AllocError, Global};
 
+// So many zeros, and room for a whole word: a bitmap that is made of them takes no more memory.
+fn zeros(alloc: Global, len: u32) -> Result<Vec<u8>, AllocError>
+    ensures { IfOk result (λ bytes. length bytes.items ≡ len) }
+{
+    let room = u64::from(len).next_multiple_of(8);
+    let mut bytes = vec![in alloc; 0u8; room as usize]?;
+    bytes.truncate(len as usize);
+    Ok(bytes)
+}
+
 // The file's bytes from a place on.
 fn read_section<S: Site>(
     alloc: Global,
@@ -33,7 +43,7 @@ fn read_section<S: Site>(
     ensures untouched { Untouched (S.seen site.old) (S.seen site.new) }
     ensures cause { IsErrOf result SiteFault → Rose (S.seen site.old).faults (S.seen site.new).faults }
 {
-    let mut bytes = vec![in alloc; 0u8; len as usize]?;
+    let mut bytes = zeros(alloc, len)?;
     site.read_file(name, at, bytes.as_mut_slice())?;
     Ok(bytes)
 }

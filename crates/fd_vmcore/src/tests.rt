@@ -1,5 +1,5 @@
 //! Opening files in memory: each refusal with its numbers, and where pages stand.
-ghost use Rattle.std.specs.Prelude.{◌≤◌, IsTrue};
+ghost use Rattle.std.specs.Prelude.{IsTrue};
 ghost use Rattle.fd_mini.specs.Layout.{is_current};
 
 use crate::{Core, OpenFault};
@@ -51,16 +51,13 @@ const AMD64: MiniHeader = MiniHeader {
 // The range from 0x80000000 to 0x80006000, and the bits 1, 2 and 4.
 const SIX_PAGES: [(usize, u8); 4] = [(8195, 0x80), (8201, 0x60), (8203, 0x80), (12288, 0x16)];
 
-// A file of this header page, and behind it zeros.
-fn page_and_zeros(alloc: Global, header: &MiniHeader, len: usize) -> Result<Vec<u8>, AllocError>
-    requires current { IsTrue (is_current header.now.arch header.now.version) }
-    requires page { 4096 ≤ len }
+// Writes a header page before everything else.
+fn write_page(bytes: &mut [u8], header: &MiniHeader)
+    requires { IsTrue (is_current header.now.arch header.now.version) }
 {
-    let mut page = [0; 4096];
-    write_header(header, &mut page);
-    let mut bytes = vec![in alloc; 0u8; len]?;
-    bytes[..4096].copy_from_slice(&page);
-    Ok(bytes)
+    if let Some(page) = bytes.first_chunk_mut::<4096>() {
+        write_header(header, page);
+    }
 }
 
 // Writes each byte at its place.
@@ -79,10 +76,10 @@ fn file(
     marks: &[(usize, u8)],
     len: usize,
 ) -> Result<Vec<u8>, AllocError>
-    requires current { IsTrue (is_current header.now.arch header.now.version) }
-    requires page { 4096 ≤ len }
+    requires { IsTrue (is_current header.now.arch header.now.version) }
 {
-    let mut bytes = page_and_zeros(alloc, header, len)?;
+    let mut bytes = vec![in alloc; 0u8; len]?;
+    write_page(bytes.as_mut_slice(), header);
     mark(bytes.as_mut_slice(), marks);
     Ok(bytes)
 }

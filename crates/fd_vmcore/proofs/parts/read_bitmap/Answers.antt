@@ -1,5 +1,5 @@
 -- There are eight bits a byte.
-use Rattle.std.proofs.Common.{ℕ, arith, ap, length, Bool, List}
+use Rattle.std.proofs.Common.{arith, ap, length, Bool, List}
 use Rattle.fd_bitmap.proofs.ByteBits.{length-bits_of}
 use Rattle.fd_vmcore.proofs.parts.read_bitmap.Goals as goal
 
