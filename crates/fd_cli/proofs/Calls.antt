@@ -3,7 +3,6 @@ use Rattle.std.proofs.Common.{◌≡◌, inl, inr, ℕ, ◌≤◌, Bool, true, f
 use Rattle.std.proofs.Common.{refl, sym, ◌∙◌, ap, subst, arith}
 use Rattle.std.specs.Bool.{OnFalse}
 use Rattle.std.specs.Result.{IsErrAnd}
-use Rattle.std.specs.String.{string_bytes}
 use Rattle.fd_site.specs.Contents.{with_entries}
 use Rattle.fd_site.specs.Fault.{Rose}
 use Rattle.fd_site.specs.Journal.{Entry}
@@ -11,7 +10,7 @@ use Rattle.fd_site.specs.Seen.{Frame, Seen, Watched}
 use Rattle.fd_site.specs.Trace.{LinkEvent, PortsEvent, grown}
 use Rattle.fd_site.proofs.Told.{grown-nil, with_entries-nil}
 use Rattle.fd_cli.specs.Ending.{Call}
-use Rattle.fd_cli.specs.Reply.{IsReplyOf, Worked, Works, WorksOnSite}
+use Rattle.fd_cli.specs.Reply.{IsReplyOf, Worked, Works, WorksOnSite, text_bytes}
 use Rattle.fd_cli.specs.Row.{Blamed, Grew, Kept, Outside, Reach, Row, nothing, only, reach}
 use Rattle.fd_cli.specs.Rows.{no_command_row, row_of}
 use Rattle.fd_cli.specs.declared.answer.Answer.TheVariants.{Refused}
@@ -86,8 +85,9 @@ worked_on_site row old new link ports result works frame cause blamed = record {
 -- no memory was found for the words
 starves_at_once : (command : Option Command) (found : Seen) → (row_of command).Starves found nothing
 starves_at_once None found = refl
+starves_at_once (Some (command.Image arch number file)) found = refl
 starves_at_once (Some command.Judge) found = refl
-starves_at_once (Some (command.Dump name)) found = refl
+starves_at_once (Some (command.Dump source)) found = refl
 starves_at_once (Some (command.Read name va count)) found = refl
 
 pub starved_at_once : (command : Option Command) (r : Reach) (result : Result Reply Trouble) → IsErrAnd result (λ trouble. trouble ≡ NoMemory)
@@ -153,7 +153,7 @@ starved row old new silent worked = record {
 
 -- the reply was printed
 pub answered : (row : Row) (old new : Outside) (reply : Reply) → Worked row old.reach new.reach (Ok reply)
-    → new.sink.told ≡ grown old.sink.told (string_bytes reply.text) → old.sink.faults ≤ new.sink.faults → Call row old new reply.status
+    → new.sink.told ≡ grown old.sink.told (text_bytes reply.text) → old.sink.faults ≤ new.sink.faults → Call row old new reply.status
 answered row old new reply worked text count = record {
   ends = inl (record {
     work = worked.works.work;
@@ -167,7 +167,7 @@ answered row old new reply worked text count = record {
 }
 
 -- the sink failed
-pub unprinted : (row : Row) (old new : Outside) (reply : Reply) → Worked row old.reach new.reach (Ok reply) → (bytes : List ℕ) → bytes ≡ string_bytes reply.text
+pub unprinted : (row : Row) (old new : Outside) (reply : Reply) → Worked row old.reach new.reach (Ok reply) → (bytes : List ℕ) → bytes ≡ text_bytes reply.text
     → ((n : ℕ) × (new.sink.told ≡ grown old.sink.told (take n bytes))) → old.sink.faults ≤ new.sink.faults → Rose old.sink.faults new.sink.faults
     → Call row old new 74
 unprinted row old new reply worked bytes text_is text count rose = record {

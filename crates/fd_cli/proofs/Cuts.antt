@@ -22,9 +22,11 @@ use Rattle.fd_cli.specs.Ending.{Answered, Call, Ends}
 use Rattle.fd_cli.specs.Laws.{EachDumpIsSafe, IsSized, IsSound, JudgeFindsDump, Left, after}
 use Rattle.fd_cli.specs.Row.{Added, Outside, Row, Work}
 use Rattle.fd_cli.specs.Rows.Common.{OnGood}
-use Rattle.fd_cli.specs.Rows.Dump.{IsNamed, MayHaveBegun, dump_row}
+use Rattle.fd_cli.specs.Rows.Dump.{MayHaveBegun, Names, dump_row}
 use Rattle.fd_cli.specs.Rows.Judge.{Judges, verdict_answer}
 use Rattle.fd_cli.specs.declared.answer.Answer.TheVariants.{Dump}
+use Rattle.fd_cli.specs.declared.source.Source.{Source}
+use Rattle.fd_cli.proofs.Dumps.{image_of}
 use Rattle.fd_cli.proofs.Outcomes.{IsWhole, whole_of_zero}
 
 -- a header's name and version are those of its architecture alone
@@ -63,36 +65,36 @@ left_of row old new status sound call = by_ending call.ends
     by_ending (inr (inr (inr done))) =
         record { added = done.added; leaves = sound.starved old.reach.site done.added done.starves; told = done.grew.site }
 
-named_or_refused : (c : Contents) (name : List ℕ) (block : ℕ) (part : List ℕ) (m : MachineImage) → IsNamed c name m
-    → IsRefusedOrThis (minidump_of m) (header_of m block) block part → IsRefusedOrNamed c name block part
-named_or_refused c name block part m named (inl refused) = inl refused
-named_or_refused c name block part m named (inr this) = inr (m, named, this)
+named_or_refused : (c : Contents) (source : Source) (block : ℕ) (part : List ℕ) (m : MachineImage) → Names c source m
+    → IsRefusedOrThis (minidump_of m) (header_of m block) block part → IsRefusedOrNamed c source block part
+named_or_refused c source block part m names (inl refused) = inl refused
+named_or_refused c source block part m names (inr this) = inr (m, names, this)
 
 -- each cut of what `dump` leaves is refused, or holds the dump
-each_cut : (found : Seen) (name : List ℕ) (added : Added) (new : Option Contents) → IsSized found → MayHaveBegun name found added
-    → new ≡ with_entries found.told added.entries → EachCutOf found.told new (IsCutOfDump name found.block)
-each_cut found name added new sized (inl none) told was now told_was told_now k these disk le cut clear =
+each_cut : (found : Seen) (source : Source) (added : Added) (new : Option Contents) → IsSized found → MayHaveBegun source found added
+    → new ≡ with_entries found.told added.entries → EachCutOf found.told new (IsCutOfDump source found.block)
+each_cut found source added new sized (inl none) told was now told_was told_now k these disk le cut clear =
     let same : new ≡ found.told = told ∙ ap (λ a. with_entries found.told a.entries) none ∙ sym (with_entries-nil found.told) in
-    subst (IsRefusedOrNamed was name found.block) (sym cut.partition)
+    subst (IsRefusedOrNamed was source found.block) (sym cut.partition)
     (inl (each_cut_of_nothing found.told new was now told_was told_now found.block same clear k these le))
-each_cut found name added new sized (inr (m, named, begun)) told was now told_was told_now k these disk le cut clear =
-    let is_named = named was told_was in
-    subst (IsRefusedOrNamed was name found.block) (sym cut.partition)
-    (named_or_refused was name found.block _ m is_named
+each_cut found source added new sized (inr (m, given, begun)) told was now told_was told_now k these disk le cut clear =
+    let image = image_of found source m given was told_was in
+    subst (IsRefusedOrNamed was source found.block) (sym cut.partition)
+    (named_or_refused was source found.block _ m image.names
     (each_cut_of_call found.told new was now told_was told_now (minidump_of m) (header_of m found.block) found.size found.block (sized was told_was)
-    begun.good begun.room (header_for m found.size found.block is_named.spells.valid begun.good) (added.entries, begun.begun, told) clear k these le))
+    begun.good begun.room (header_for m found.size found.block image.valid begun.good) (added.entries, begun.begun, told) clear k these le))
 
 pub each_dump_is_safe : EachDumpIsSafe
-each_dump_is_safe name found new sized left = each_cut found name left.added new sized left.leaves left.told
+each_dump_is_safe source found new sized left = each_cut found source left.added new sized left.leaves left.told
 
 -- a whole dump is found
-found_after : (found : Seen) (name : List ℕ) (w : Work) (new : Option Contents) → IsSized found → IsWhole name found w
-    → new ≡ with_entries found.told w.added.entries → IsFound found.told new name found.block
-found_after found name w new sized whole told was now told_was told_now =
-    let is_named = whole.named was told_was in
-    let header = header_for whole.image found.size found.block is_named.spells.valid whole.good in (
+found_after : (found : Seen) (source : Source) (w : Work) (new : Option Contents) → IsSized found → IsWhole source found w
+    → new ≡ with_entries found.told w.added.entries → IsFound found.told new source found.block
+found_after found source w new sized whole told was now told_was told_now =
+    let image = image_of found source whole.image whole.given was told_was in
+    let header = header_for whole.image found.size found.block image.valid whole.good in (
       whole.image,
-      is_named,
+      image.names,
       this_after_call found.told new was now told_was told_now (minidump_of whole.image) (header_of whole.image found.block) found.size found.block
           (sized was told_was) whole.good whole.room header (w.added.entries, whole.dumps.is_dump, told),
     )
@@ -110,28 +112,28 @@ answered_zero row old new status (inr (inl done)) zero = absurd (not_74 status d
 answered_zero row old new status (inr (inr (inl done))) zero = absurd (not_74 status done.status_is zero)
 answered_zero row old new status (inr (inr (inr done))) zero = absurd (not_71 status done.status_is zero)
 
-pub found_of_call : (old new : Outside) (name : List ℕ) (status : ℕ) → IsSized old.reach.site → Call (dump_row name) old new status → status ≡ 0
-    → IsFound old.reach.site.told new.reach.site.told name old.reach.site.block
-found_of_call old new name status sized call zero =
-    let done = answered_zero (dump_row name) old new status call.ends zero in
-    found_after old.reach.site name done.work new.reach.site.told sized
-    (whole_of_zero name old.reach.site done.work done.does (sym done.status_is ∙ zero)) done.grew.site
+pub found_of_call : (old new : Outside) (source : Source) (status : ℕ) → IsSized old.reach.site → Call (dump_row source) old new status → status ≡ 0
+    → IsFound old.reach.site.told new.reach.site.told source old.reach.site.block
+found_of_call old new source status sized call zero =
+    let done = answered_zero (dump_row source) old new status call.ends zero in
+    found_after old.reach.site source done.work new.reach.site.told sized
+    (whole_of_zero source old.reach.site done.work done.does (sym done.status_is ∙ zero)) done.grew.site
 
 of_true : (b : Bool) (P : Type 0) → b ≡ true → OnTrue b P → P
 of_true true P is p = p
 of_true false P is p = absurd (cc)
 
 -- after a whole dump, a judge over what it left answers its length
-judged_after : (found : Seen) (name : List ℕ) (dump judge : Work) → IsSized found → IsWhole name found dump
+judged_after : (found : Seen) (source : Source) (dump judge : Work) → IsSized found → IsWhole source found dump
     → OnGood (after found dump) (Judges (after found dump)) judge
-    → Told found.told (λ c. (m : MachineImage) × IsNamed c name m × (judge.answer ≡ Dump (length (minidump_of m))))
-judged_after found name dump judge sized whole judges c told =
+    → Told found.told (λ c. (m : MachineImage) × Names c source m × (judge.answer ≡ Dump (length (minidump_of m))))
+judged_after found source dump judge sized whole judges c told =
     let now : Contents = record c { journal = c.journal ++ dump.added.entries } in
     let told_now : with_entries found.told dump.added.entries ≡ Some now = ap (λ t. with_entries t dump.added.entries) told in
-    let this = found_after found name dump (with_entries found.told dump.added.entries) sized whole refl c now told told_now in
+    let this = found_after found source dump (with_entries found.told dump.added.entries) sized whole refl c now told told_now in
     let judged = of_true (is_good found.size found.block) (Judges (after found dump) judge) whole.good judges.0 in
     (this.0, this.1, ap (λ w. w.answer) judged.2 ∙ ap verdict_answer (judged.1 now told_now ∙ this.2.verdict))
 
 pub judge_finds_dump : JudgeFindsDump
-judge_finds_dump name found dump judge sized does zero judges =
-    judged_after found name dump judge sized (whole_of_zero name found dump does zero) judges
+judge_finds_dump source found dump judge sized does zero judges =
+    judged_after found source dump judge sized (whole_of_zero source found dump does zero) judges

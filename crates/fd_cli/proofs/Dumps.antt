@@ -4,7 +4,7 @@ use Rattle.std.proofs.lemmas.Bool.Decides.{nat_tests}
 use Rattle.fd_site.specs.Contents.{Contents, Told, file_of}
 use Rattle.fd_site.specs.Seen.{Seen, Untouched}
 use Rattle.fd_site.proofs.Told.{with_entries-nil}
-use Rattle.fd_image.specs.Image.{MachineImage}
+use Rattle.fd_image.specs.Image.{MachineImage, IsValid}
 use Rattle.fd_imgfile.specs.Reading.{IsReading}
 use Rattle.fd_imgfile.specs.declared.fault.ImageFault.{ImageFault}
 use Rattle.fd_dump.specs.Minidump.{minidump_of}
@@ -15,7 +15,7 @@ use Rattle.fd_part.specs.declared.outcome.PartFault.{PartFault}
 use Rattle.fd_part.specs.declared.outcome.PartFault.TheVariants as part
 use Rattle.fd_part.specs.declared.outcome.Wrote.{Wrote}
 use Rattle.fd_cli.specs.Reply.{IsReplyOf, SiteReplies, WorksOnSite}
-use Rattle.fd_cli.specs.Rows.Dump.{DumpsNamed, IsNamed, RefusesImage, dump_row, image_dump_row, no_room}
+use Rattle.fd_cli.specs.Rows.Dump.{DumpsSource, IsGiven, IsNamed, Names, RefusesImage, dump_row, image_dump_row, no_room}
 use Rattle.fd_cli.specs.Rows.Read.{IsReadAnswer, read_row}
 use Rattle.fd_cli.specs.declared.answer.Answer.{Answer}
 use Rattle.fd_cli.specs.declared.answer.Answer.TheVariants.{Refused}
@@ -23,6 +23,8 @@ use Rattle.fd_cli.specs.declared.refusal.Refusal.TheVariants as refusal
 use Rattle.fd_cli.specs.declared.reply.Reply.{Reply}
 use Rattle.fd_cli.specs.declared.reply.Trouble.{Trouble}
 use Rattle.fd_cli.specs.declared.reply.Trouble.TheVariants.{Fault, NoMemory}
+use Rattle.fd_cli.specs.declared.source.Source.{Source}
+use Rattle.fd_cli.specs.declared.source.Source.TheVariants.{File, Made}
 use Rattle.fd_cli.proofs.Good.{on_false, over_bad, over_good}
 
 -- what a writer's answer says of no room
@@ -55,31 +57,30 @@ refused_for_room old new m body fault room reply fault_is body_is short numbers 
     }
 
 -- the partition isn't good
-pub refused_partition : (found : Seen) (name : List ℕ) (size block : ℕ) (reply : Reply) → size ≡ found.size → block ≡ found.block
+pub refused_partition : (found : Seen) (source : Source) (size block : ℕ) (reply : Reply) → size ≡ found.size → block ≡ found.block
     → is_good found.size found.block ≡ false → IsReplyOf (Refused (refusal.Partition (record { size = size; block = block }))) reply
-    → SiteReplies (dump_row name) found found reply
-refused_partition found name size block reply same_size same_block bad is = record {
+    → SiteReplies (dump_row source) found found reply
+refused_partition found source size block reply same_size same_block bad is = record {
   answer = Refused (refusal.Partition (record { size = found.size; block = found.block }));
   entries = [];
-  does = over_bad found (DumpsNamed name found) _ bad refl;
+  does = over_bad found (DumpsSource source found) _ bad refl;
   told = with_entries-nil found.told;
   is = subst (λ a. IsReplyOf a reply) (λ i. Refused (refusal.Partition (record { size = same_size i; block = same_block i }))) is;
 }
 
--- the image wasn't read
-pub image_refused : (old new : Seen) (name : List ℕ) (fault : ImageFault) (result : Result Reply Trouble) → is_good old.size old.block ≡ true
-    → Told old.told (λ c. IsReading (file_of c name) (Err fault)) → RefusesImage fault result → new.told ≡ old.told
-    → WorksOnSite (dump_row name) old new result
-image_refused old new name fault (Ok reply) good reading is same = record {
+-- the image wasn't given
+pub image_refused : (old new : Seen) (source : Source) (fault : ImageFault) (result : Result Reply Trouble) → is_good old.size old.block ≡ true
+    → IsGiven source old (Err fault) → RefusesImage fault result → new.told ≡ old.told → WorksOnSite (dump_row source) old new result
+image_refused old new source fault (Ok reply) good given is same = record {
   answer = is.0;
   entries = [];
-  does = over_good old (DumpsNamed name old) _ good (Err fault, reading, is.1 old);
+  does = over_good old (DumpsSource source old) _ good (Err fault, given, is.1 old);
   told = same ∙ with_entries-nil old.told;
   is = is.2;
 }
-image_refused old new name fault (Err Fault) good reading is same =
+image_refused old new source fault (Err Fault) good given is same =
     record { entries = []; leaves = inl refl; told = same ∙ with_entries-nil old.told }
-image_refused old new name fault (Err NoMemory) good reading is same =
+image_refused old new source fault (Err NoMemory) good given is same =
     record { entries = []; starves = refl; told = same ∙ with_entries-nil old.told }
 
 -- a file that spells an image names it
@@ -87,11 +88,17 @@ named : (c : Contents) (name : List ℕ) (m : MachineImage) (file : Option (List
 named c name m None is reading = absurd reading
 named c name m (Some f) is reading = record { file = f; there = is; spells = reading }
 
-pub told_named : (found : Seen) (name : List ℕ) (m : MachineImage) → Told found.told (λ c. IsReading (file_of c name) (Ok m))
-    → Told found.told (λ c. IsNamed c name m)
-told_named found name m reading c told = named c name m (file_of c name) refl (reading c told)
+-- the image that a source gives is a valid one, which it names
+pub record IsImageOf (c : Contents) (source : Source) (m : MachineImage) : Type 0 where
+  pub names : Names c source m
+  pub valid : IsValid m
 
--- an image that was read, over a site that is seen as before but for its faults
+pub image_of : (found : Seen) (source : Source) (m : MachineImage) → IsGiven source found (Ok m) → Told found.told (λ c. IsImageOf c source m)
+image_of found (File name) m given c told =
+    let is_named = named c name m (file_of c name) refl (given c told) in record { names = is_named; valid = is_named.spells.valid }
+image_of found (Made arch number) m given c told = record { names = given.0; valid = given.1 }
+
+-- an image that was given, over a site that is seen as before but for its faults
 same_row : (m : MachineImage) (old mid new : Seen) (result : Result Reply Trouble) → Untouched old mid → WorksOnSite (image_dump_row m) mid new result
     → WorksOnSite (image_dump_row m) (record mid { told = old.told; size = old.size; block = old.block }) new result
 same_row m old mid new result same works =
@@ -99,26 +106,25 @@ same_row m old mid new result same works =
     (λ i. record mid { told = same.told i; size = same.size i; block = same.block i }) works
 
 -- and its dump was written or not
-pub image_dumped : (old mid new : Seen) (name : List ℕ) (m : MachineImage) (result : Result Reply Trouble) → is_good old.size old.block ≡ true
-    → Told old.told (λ c. IsReading (file_of c name) (Ok m)) → Untouched old mid → WorksOnSite (image_dump_row m) mid new result
-    → WorksOnSite (dump_row name) old new result
-image_dumped old mid new name m (Ok reply) good reading same works =
+pub image_dumped : (old mid new : Seen) (source : Source) (m : MachineImage) (result : Result Reply Trouble) → is_good old.size old.block ≡ true
+    → IsGiven source old (Ok m) → Untouched old mid → WorksOnSite (image_dump_row m) mid new result → WorksOnSite (dump_row source) old new result
+image_dumped old mid new source m (Ok reply) good given same works =
     let here = same_row m old mid new (Ok reply) same works in
     record {
       answer = here.answer;
       entries = here.entries;
-      does = over_good old (DumpsNamed name old) _ good (Ok m, reading, here.does);
+      does = over_good old (DumpsSource source old) _ good (Ok m, given, here.does);
       told = here.told;
       is = here.is;
     }
-image_dumped old mid new name m (Err Fault) good reading same works =
+image_dumped old mid new source m (Err Fault) good given same works =
     let here = same_row m old mid new (Err Fault) same works in
     record {
       entries = here.entries;
-      leaves = elim here.leaves [ inl none ↦ inl none | inr begun ↦ inr (m, told_named old name m reading, begun) ];
+      leaves = elim here.leaves [ inl none ↦ inl none | inr begun ↦ inr (m, given, begun) ];
       told = here.told;
     }
-image_dumped old mid new name m (Err NoMemory) good reading same works =
+image_dumped old mid new source m (Err NoMemory) good given same works =
     let here = same_row m old mid new (Err NoMemory) same works in
     record { entries = here.entries; starves = here.starves; told = here.told }
 

@@ -9,7 +9,7 @@ use Rattle.fd_dump.specs.Minidump.{minidump_of}
 use Rattle.fd_vmcore.specs.declared.open.OpenFault.{OpenFault}
 use Rattle.fd_kvm.specs.Answer.{answer_of}
 use Rattle.fd_cli.specs.Ending.{Ends}
-use Rattle.fd_cli.specs.Rows.Image.{image_row, OfImage}
+use Rattle.fd_cli.specs.Rows.ImageRead.{image_read_row, OfImage}
 use Rattle.fd_cli.specs.Laws.{Refines}
 use Rattle.fd_cli.specs.Row.{FaultRose, Outside, Row, nothing}
 use Rattle.fd_cli.specs.Rows.Read.{IsAnswerToFile, bytes_answer, file_answer, read_row}
@@ -63,7 +63,7 @@ by_given va given bytes answer is_given is = subst (λ g. IsAnswerToFile va g an
 
 -- over a file that is an image's minidump, `read` reads the image
 read_is_images : (law : ReadingLaw) (found : Seen) (name : List ℕ) (va count : ℕ) (c : Contents) (m : MachineImage) → found.told ≡ Some c → IsValid m
-    → file_of c name ≡ Some (minidump_of m) → Refines found (read_row name va count) (image_row m va count)
+    → file_of c name ≡ Some (minidump_of m) → Refines found (read_row name va count) (image_read_row m va count)
 read_is_images law found name va count c m told valid is = record {
   does = λ w does.
       let answer_is : w.answer ≡ bytes_answer va (kernel_read m va count) =
@@ -76,6 +76,6 @@ read_is_images law found name va count c m told valid is = record {
 }
 
 pub reads_of_call : (law : ReadingLaw) (old new : Outside) (name : List ℕ) (va count status : ℕ) → Ends (read_row name va count) old new status
-    → OfImage old.reach.site name (λ m. Ends (image_row m va count) old new status)
+    → OfImage old.reach.site name (λ m. Ends (image_read_row m va count) old new status)
 reads_of_call law old new name va count status ends c told m valid is =
-    ends_by (read_row name va count) (image_row m va count) old new status (read_is_images law old.reach.site name va count c m told valid is) ends
+    ends_by (read_row name va count) (image_read_row m va count) old new status (read_is_images law old.reach.site name va count c m told valid is) ends

@@ -1,10 +1,8 @@
 -- What each command's work comes to: it was refused, or did what it was asked for.
 use Rattle.std.proofs.Common.{◌≡◌, ◌⊎◌, inl, inr, ℕ, ◌≤◌, Bool, true, false, IsTrue, List, length, Result, Ok, Err, refl, sym, ◌∙◌, ap, arith}
 use Rattle.std.proofs.lemmas.Bool.Decides.{nat_tests}
-use Rattle.fd_site.specs.Contents.{Contents, Told, file_of}
 use Rattle.fd_site.specs.Seen.{Seen}
 use Rattle.fd_image.specs.Image.{MachineImage}
-use Rattle.fd_imgfile.specs.Reading.{IsReading}
 use Rattle.fd_imgfile.specs.declared.fault.ImageFault.{ImageFault}
 use Rattle.fd_imgfile.specs.declared.fault.ImageFault.TheVariants as image
 use Rattle.fd_dump.specs.Minidump.{minidump_of}
@@ -13,11 +11,11 @@ use Rattle.fd_cli.specs.Ending.{answer_status}
 use Rattle.fd_cli.specs.Refusal.{status_of}
 use Rattle.fd_cli.specs.Row.{Work, nothing}
 use Rattle.fd_cli.specs.Rows.Common.{OnGood, Refuses}
-use Rattle.fd_cli.specs.Rows.Dump.{ByImage, Dumps, DumpsNamed, IsNamed, dump_row}
+use Rattle.fd_cli.specs.Rows.Dump.{ByImage, Dumps, DumpsSource, IsGiven, dump_row}
 use Rattle.fd_cli.specs.Rows.Judge.{Judges}
 use Rattle.fd_cli.specs.declared.refusal.Refusal.{Refusal}
 use Rattle.fd_cli.specs.declared.refusal.Refusal.TheVariants.{Judged, Address, NoFile, NotImage, BadImage, NoRoom, Partition, Mini, Short, BadAvail, NotCommand}
-use Rattle.fd_cli.proofs.Dumps.{told_named}
+use Rattle.fd_cli.specs.declared.source.Source.{Source}
 use Rattle.fd_cli.proofs.Good.{either}
 
 -- what is refused adds nothing
@@ -48,40 +46,40 @@ judge_adds_nothing found w does =
     (λ bad refused. refused_adds_nothing _ w refused)
 
 -- a whole dump was written, with room
-pub record IsWhole (name : List ℕ) (found : Seen) (w : Work) : Type 0 where
+pub record IsWhole (source : Source) (found : Seen) (w : Work) : Type 0 where
   pub image : MachineImage
-  pub named : Told found.told (λ c. IsNamed c name image)
+  pub given : IsGiven source found (Ok image)
   pub good : IsTrue (is_good found.size found.block)
   pub room : need_of found.block (length (minidump_of image)) ≤ found.size
   pub dumps : Dumps found.size found.block image w
 
 -- `dump` was refused, or wrote the whole dump
-abbrev pub IsRefusedOrWhole : (name : List ℕ) → Seen → Work → Type 0
-IsRefusedOrWhole name found w = ((refusal : Refusal) × Refuses refusal w) ⊎ IsWhole name found w
+abbrev pub IsRefusedOrWhole : Source → Seen → Work → Type 0
+IsRefusedOrWhole source found w = ((refusal : Refusal) × Refuses refusal w) ⊎ IsWhole source found w
 
 has_bytes : (found : Seen) (len : ℕ) → has_room found.size found.block len ≡ true → need_of found.block len ≤ found.size
 has_bytes found len room = grind (arith, nat_tests, room)
 
-by_image : (name : List ℕ) (found : Seen) (w : Work) (reading : Result MachineImage ImageFault) → IsTrue (is_good found.size found.block)
-    → Told found.told (λ c. IsReading (file_of c name) reading) → ByImage found reading w → IsRefusedOrWhole name found w
-by_image name found w (Ok m) good reading does =
-    either (has_room found.size found.block (length (minidump_of m))) (Dumps found.size found.block m w) _ (IsRefusedOrWhole name found w) does
-    (λ room dumps. inr (record { image = m; named = told_named found name m reading; good = good; room = has_bytes found _ room; dumps = dumps }))
+by_image : (source : Source) (found : Seen) (w : Work) (given : Result MachineImage ImageFault) → IsTrue (is_good found.size found.block)
+    → IsGiven source found given → ByImage found given w → IsRefusedOrWhole source found w
+by_image source found w (Ok m) good given does =
+    either (has_room found.size found.block (length (minidump_of m))) (Dumps found.size found.block m w) _ (IsRefusedOrWhole source found w) does
+    (λ room dumps. inr (record { image = m; given = given; good = good; room = has_bytes found _ room; dumps = dumps }))
     (λ short refused. inl (_, refused))
-by_image name found w (Err image.NoFile) good reading does = inl (NoFile, does)
-by_image name found w (Err (image.NotImage place)) good reading does = inl (NotImage place, does)
-by_image name found w (Err (image.BadImage bad)) good reading does = inl (BadImage bad, does)
-by_image name found w (Err image.SiteFault) good reading does = absurd does
-by_image name found w (Err image.NoMemory) good reading does = absurd does
+by_image source found w (Err image.NoFile) good given does = inl (NoFile, does)
+by_image source found w (Err (image.NotImage place)) good given does = inl (NotImage place, does)
+by_image source found w (Err (image.BadImage bad)) good given does = inl (BadImage bad, does)
+by_image source found w (Err image.SiteFault) good given does = absurd does
+by_image source found w (Err image.NoMemory) good given does = absurd does
 
-pub refused_or_whole : (name : List ℕ) (found : Seen) (w : Work) → (dump_row name).Does found w → IsRefusedOrWhole name found w
-refused_or_whole name found w does =
-    either (is_good found.size found.block) (DumpsNamed name found w) _ (IsRefusedOrWhole name found w) does
-    (λ good d. by_image name found w d.0 good d.1 d.2) (λ bad refused. inl (_, refused))
+pub refused_or_whole : (source : Source) (found : Seen) (w : Work) → (dump_row source).Does found w → IsRefusedOrWhole source found w
+refused_or_whole source found w does =
+    either (is_good found.size found.block) (DumpsSource source found w) _ (IsRefusedOrWhole source found w) does
+    (λ good d. by_image source found w d.0 good d.1 d.2) (λ bad refused. inl (_, refused))
 
 -- `dump` that ended with 0 wrote the whole dump
-pub whole_of_zero : (name : List ℕ) (found : Seen) (w : Work) → (dump_row name).Does found w → answer_status w.answer ≡ 0 → IsWhole name found w
-whole_of_zero name found w does zero = elim (refused_or_whole name found w does) [
+pub whole_of_zero : (source : Source) (found : Seen) (w : Work) → (dump_row source).Does found w → answer_status w.answer ≡ 0 → IsWhole source found w
+whole_of_zero source found w does zero = elim (refused_or_whole source found w does) [
   | inl refused ↦ absurd (refused_not_zero refused.0 w refused.1 zero)
   | inr whole ↦ whole
 ]

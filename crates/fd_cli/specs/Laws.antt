@@ -9,10 +9,11 @@ use Rattle.fd_cli.specs.Crash.{IsCutOfDump}
 use Rattle.fd_cli.specs.Ending.{Call, answer_status}
 use Rattle.fd_cli.specs.Row.{Added, Grew, Outside, Row, Work, nothing}
 use Rattle.fd_cli.specs.Rows.{row_of}
-use Rattle.fd_cli.specs.Rows.Dump.{IsNamed, dump_row}
+use Rattle.fd_cli.specs.Rows.Dump.{Names, dump_row}
 use Rattle.fd_cli.specs.Rows.Judge.{judge_row}
 use Rattle.fd_cli.specs.declared.answer.Answer.TheVariants.{Dump}
 use Rattle.fd_cli.specs.declared.command.Command.{Command}
+use Rattle.fd_cli.specs.declared.source.Source.{Source}
 
 -- whatever a row's work was, it left what the row may leave; and it may end without a word
 pub record IsSound (row : Row) : Type 0 where
@@ -51,12 +52,12 @@ IsSized found = Told found.told (λ c. length (part_of c) ≡ found.size)
 -- after a `dump` that ended with 0, `savecore -C` answers the length of the image's minidump
 abbrev pub JudgeFindsDump : Type 0
 JudgeFindsDump =
-    (name : List ℕ) (found : Seen) (dump judge : Work) → IsSized found → (dump_row name).Does found dump → answer_status dump.answer ≡ 0
+    (source : Source) (found : Seen) (dump judge : Work) → IsSized found → (dump_row source).Does found dump → answer_status dump.answer ≡ 0
     → judge_row.Does (after found dump) judge
-    → Told found.told (λ c. (m : MachineImage) × IsNamed c name m × (judge.answer ≡ Dump (length (minidump_of m))))
+    → Told found.told (λ c. (m : MachineImage) × Names c source m × (judge.answer ≡ Dump (length (minidump_of m))))
 
 -- wherever a machine stops in what `dump` left, over a partition that was clear: judging refuses it, or finds the image's dump
 abbrev pub EachDumpIsSafe : Type 0
 EachDumpIsSafe =
-    (name : List ℕ) (found : Seen) (new : Option Contents) → IsSized found → Left (dump_row name) found new
-    → EachCutOf found.told new (IsCutOfDump name found.block)
+    (source : Source) (found : Seen) (new : Option Contents) → IsSized found → Left (dump_row source) found new
+    → EachCutOf found.told new (IsCutOfDump source found.block)

@@ -7,3 +7,4 @@ pub mod Refusal
 pub mod Reply
 pub mod Row
 pub mod Rows
+pub mod Source

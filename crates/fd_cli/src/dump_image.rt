@@ -2,20 +2,21 @@
 
 ghost use Rattle.std.specs.Prelude.{◌≡◌, ◌≤◌, ◌⊎◌, ℕ, Err, length, IfOk, IsErrOf, IsTrue};
 ghost use Rattle.fd_site.specs.Fault.{Rose};
-ghost use Rattle.fd_site.specs.Name.{is_good_name};
-ghost use Rattle.fd_site.specs.Seen.{Frame};
-ghost use Rattle.fd_dump.specs.Minidump.{minidump_of};
+ghost use Rattle.fd_site.specs.Seen.{Frame, Untouched};
+ghost use Rattle.fd_dump.specs.Plan.{IsPlanOf};
 ghost use Rattle.fd_imgfile.specs.declared.fault.ImageFault.TheVariants.{SiteFault};
 ghost use Rattle.fd_part.specs.Partition.{is_good};
 ghost use Rattle.fd_cli.specs.Reply.{IsReplyOf, WorksOnSite};
-ghost use Rattle.fd_cli.specs.Rows.Dump.{dump_row, image_dump_row, RefusesImage};
+ghost use Rattle.fd_cli.specs.Rows.Dump.{dump_row, image_dump_row, IsGiven, RefusesImage};
+ghost use Rattle.fd_cli.specs.Source.{HasGoodName};
 ghost use Rattle.fd_cli.specs.declared.answer.Answer.TheVariants.{Refused};
 
 use crate::answer::Answer;
 use crate::refusal::Refusal;
 use crate::reply::{Reply, Trouble};
-use crate::word::Word;
+use crate::source::Source;
 use fd_dump::Plan;
+use fd_gen::make;
 use fd_image::Image;
 use fd_imgfile::{ImageFault, read_image};
 use fd_part::{BadPartition, PartFault, good_partition, write_dump};
@@ -29,7 +30,7 @@ fn refuse(alloc: Global, refusal: Refusal) -> Result<Reply, AllocError>
     Reply::new(alloc, &Answer::Refused(refusal))
 }
 
-// The reply to an image that wasn't read.
+// The reply to an image that wasn't given.
 fn refuse_image(alloc: Global, fault: ImageFault) -> Result<Reply, Trouble>
     ensures answer { RefusesImage fault result }
     ensures cause { IsErrOf result Trouble.Fault → fault ≡ SiteFault }
@@ -53,7 +54,7 @@ fn write_plan<S: Site>(
     plan: &Plan,
 ) -> Result<Reply, Trouble>
     requires partition { IsTrue (is_good (S.seen site.old).size (S.seen site.old).block) }
-    requires plan { plan.now ≡ minidump_of image.now }
+    requires plan { IsPlanOf plan.now image.now }
     ensures works { WorksOnSite (image_dump_row image.now) (S.seen site.old) (S.seen site.new) result }
     ensures frame { Frame (S.seen site.old) (S.seen site.new) }
     ensures cause { IsErrOf result Trouble.Fault → Rose (S.seen site.old).faults (S.seen site.new).faults }
@@ -76,14 +77,34 @@ fn write_plan<S: Site>(
     }
 }
 
-/// `dump IMAGE`: writes the dump of the image in the file of this name.
+// The image that a source gives.
+fn take_image<S: Site>(
+    alloc: Global,
+    site: &mut S,
+    source: &Source,
+) -> Result<Image, ImageFault>
+    requires { HasGoodName source.now }
+    ensures given { IsGiven source.now (S.seen site.old) result }
+    ensures untouched { Untouched (S.seen site.old) (S.seen site.new) }
+    ensures cause { IsErrOf result SiteFault → Rose (S.seen site.old).faults (S.seen site.new).faults }
+{
+    match source {
+        Source::File(name) => read_image(alloc, site, name.as_str()),
+        Source::Made { arch, number } => {
+            let image = make(alloc, *arch, *number)?;
+            Ok(image)
+        }
+    }
+}
+
+/// `dump IMAGE`: writes the dump of the image that comes from this source.
 pub(crate) fn dump_image<S: Site>(
     alloc: Global,
     site: &mut S,
-    name: &Word,
+    source: &Source,
 ) -> Result<Reply, Trouble>
-    requires { IsTrue (is_good_name name.now) }
-    ensures works { WorksOnSite (dump_row name.now) (S.seen site.old) (S.seen site.new) result }
+    requires { HasGoodName source.now }
+    ensures works { WorksOnSite (dump_row source.now) (S.seen site.old) (S.seen site.new) result }
     ensures frame { Frame (S.seen site.old) (S.seen site.new) }
     ensures cause { IsErrOf result Trouble.Fault → Rose (S.seen site.old).faults (S.seen site.new).faults }
 {
@@ -93,7 +114,7 @@ pub(crate) fn dump_image<S: Site>(
         let reply = refuse(alloc, Refusal::Partition(BadPartition { size, block }))?;
         return Ok(reply);
     }
-    let image = match read_image(alloc, site, name.as_str()) {
+    let image = match take_image(alloc, site, source) {
         Ok(image) => image,
         Err(fault) => return refuse_image(alloc, fault),
     };

@@ -9,11 +9,14 @@ mod dump_image;
 mod invocation;
 mod judge_partition;
 pub mod laws;
+mod make_image;
 mod read_memory;
 mod refusal;
 mod reply;
 mod run;
+mod source;
 pub mod status;
+mod text;
 mod word;
 
 pub use answer::Answer;
@@ -21,6 +24,7 @@ pub use command::Command;
 pub use invocation::{Invocation, read_invocation};
 pub use refusal::Refusal;
 pub use run::crashway;
+pub use source::Source;
 pub use word::Word;
 
 #[cfg(test)]
@@ -28,6 +32,12 @@ mod dump_tests;
 #[cfg(test)]
 mod image_files;
 #[cfg(test)]
+mod image_tests;
+#[cfg(test)]
 mod read_tests;
 #[cfg(test)]
+mod table_tests;
+#[cfg(test)]
 mod tests;
+#[cfg(test)]
+mod version_tests;

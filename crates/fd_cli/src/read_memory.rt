@@ -42,12 +42,12 @@ fn refuse_file(fault: OpenFault) -> Result<Answer, Trouble>
 fn read_bytes<S: Site>(
     alloc: Global,
     site: &mut S,
-    kvm: &Kvm,
+    kvm: &mut Kvm,
     address: u64,
     count: u32,
 ) -> Result<Answer, Trouble>
-    requires { Told (S.seen site.old).told (StandsFor kvm.now) }
-    ensures answer { IfOk result (IsReaderAnswer (S.seen site.old).told kvm.now address count) }
+    requires { Told (S.seen site.old).told (StandsFor kvm.old) }
+    ensures answer { IfOk result (IsReaderAnswer (S.seen site.old).told kvm.old address count) }
     ensures some { IfOk result (IsSomeRead address) }
     ensures printable { IfOk result IsPrintable }
     ensures untouched { Untouched (S.seen site.old) (S.seen site.new) }
@@ -64,6 +64,9 @@ fn read_bytes<S: Site>(
     }
 }
 
+/// How many pages of the file are kept while it is read.
+const PAGES: usize = 64;
+
 /// `read FILE ADDRESS LENGTH`: the bytes of a vmcore at kernel addresses.
 pub(crate) fn read_memory<S: Site>(
     alloc: Global,
@@ -78,9 +81,9 @@ pub(crate) fn read_memory<S: Site>(
     ensures untouched { Untouched (S.seen site.old) (S.seen site.new) }
     ensures cause { IsErrOf result Trouble.Fault → Rose (S.seen site.old).faults (S.seen site.new).faults }
 {
-    let kvm = match Kvm::open(alloc, site, file.as_str()) {
+    let mut kvm = match Kvm::open(alloc, site, file.as_str(), PAGES) {
         Ok(kvm) => kvm,
         Err(fault) => return refuse_file(fault),
     };
-    read_bytes(alloc, site, &kvm, address, count)
+    read_bytes(alloc, site, &mut kvm, address, count)
 }

@@ -11,15 +11,17 @@ ghost use Rattle.fd_cli.specs.Ending.{Call, Ends};
 ghost use Rattle.fd_cli.specs.Reply.{Worked, WorksOnSite};
 ghost use Rattle.fd_cli.specs.Row.{outside, reach};
 ghost use Rattle.fd_cli.specs.Rows.{row_of};
-ghost use Rattle.fd_cli.specs.Rows.Image.{image_row, OfImage};
+ghost use Rattle.fd_cli.specs.Rows.ImageRead.{image_read_row, OfImage};
 ghost use Rattle.fd_cli.specs.Rows.Judge.{judge_row};
 ghost use Rattle.fd_cli.specs.Rows.Read.{read_row};
 ghost use Rattle.fd_cli.specs.declared.command.Command.TheVariants as command;
+ghost use Rattle.fd_cli.specs.declared.source.Source.{Source};
 
 use crate::answer::Answer;
 use crate::command::{Command, read_command};
 use crate::dump_image::dump_image;
 use crate::judge_partition::judge_partition;
+use crate::make_image::make_image;
 use crate::read_memory::read_memory;
 use crate::refusal::Refusal;
 use crate::reply::{Reply, Trouble};
@@ -77,6 +79,7 @@ fn work<S: Site, L: Link, P: Ports>(
             let reply = Reply::new(alloc, &Answer::Refused(Refusal::NotCommand))?;
             Ok(reply)
         }
+        Some(Command::Image { arch, number, file }) => make_image(alloc, site, arch, number, &file),
         Some(Command::Judge) => judge_reply(alloc, site),
         Some(Command::Dump { image }) => dump_image(alloc, site, &image),
         Some(
@@ -105,7 +108,7 @@ fn carry_out<S: Site, L: Link, P: Ports, O: Sink>(
         Err(Trouble::Fault) => return status::FAULT,
         Err(Trouble::NoMemory) => return status::MEMORY,
     };
-    match out.put(reply.text.as_bytes()) {
+    match out.put(reply.text.as_slice()) {
         Ok(()) => reply.status,
         Err(_) => status::FAULT,
     }
@@ -113,8 +116,9 @@ fn carry_out<S: Site, L: Link, P: Ports, O: Sink>(
 
 /// Does what the words ask for, prints its text and answers its status.
 ///
-/// `savecore -C` judges the partition and prints `dump LENGTH`, or the refusal with status 1. `dump IMAGE` writes the
-/// dump of the machine image in that file and prints `dumped LENGTH`. `read FILE ADDRESS LENGTH` prints the bytes of
+/// `image ARCH NUMBER FILE` writes the image that is made of a number and prints `image FILE BYTES`. `savecore -C` judges
+/// the partition and prints `dump LENGTH`, or the refusal with status 1. `dump IMAGE` writes the dump of a machine image,
+/// of that file or made, and prints `dumped LENGTH`. `read FILE ADDRESS LENGTH` prints the bytes of
 /// a saved minidump at kernel addresses, 16 a line; an address that has no byte is refused with 1. A partition that
 /// can't hold a dump, a file that is no image or no minidump, and a partition without room are refused with 65, words
 /// that are no command with 64. Status 74 says that the site or the sink failed, and a part of the text may then have
@@ -128,9 +132,9 @@ pub fn crashway<S: Site, L: Link, P: Ports, O: Sink>(
     out: &mut O,
 ) -> u8
     ensures call { Call (row_of (command_of words.now)) (outside (S.seen site.old) (L.seen link.old) (P.seen ports.old) (O.seen out.old)) (outside (S.seen site.new) (L.seen link.new) (P.seen ports.new) (O.seen out.new)) result }
-    ensures crash { (name : List ℕ) → command_of words.now ≡ Some (command.Dump name) → EachCutOf (S.seen site.old).told (S.seen site.new).told (IsCutOfDump name (S.seen site.old).block) }
-    ensures found { (name : List ℕ) → command_of words.now ≡ Some (command.Dump name) → result ≡ 0 → IsFound (S.seen site.old).told (S.seen site.new).told name (S.seen site.old).block }
-    ensures reads { (name : List ℕ) (va count : ℕ) → command_of words.now ≡ Some (command.Read name va count) → OfImage (S.seen site.old) name (λ m. Ends (image_row m va count) (outside (S.seen site.old) (L.seen link.old) (P.seen ports.old) (O.seen out.old)) (outside (S.seen site.new) (L.seen link.new) (P.seen ports.new) (O.seen out.new)) result) }
+    ensures crash { (source : Source) → command_of words.now ≡ Some (command.Dump source) → EachCutOf (S.seen site.old).told (S.seen site.new).told (IsCutOfDump source (S.seen site.old).block) }
+    ensures found { (source : Source) → command_of words.now ≡ Some (command.Dump source) → result ≡ 0 → IsFound (S.seen site.old).told (S.seen site.new).told source (S.seen site.old).block }
+    ensures reads { (name : List ℕ) (va count : ℕ) → command_of words.now ≡ Some (command.Read name va count) → OfImage (S.seen site.old) name (λ m. Ends (image_read_row m va count) (outside (S.seen site.old) (L.seen link.old) (P.seen ports.old) (O.seen out.old)) (outside (S.seen site.new) (L.seen link.new) (P.seen ports.new) (O.seen out.new)) result) }
 {
     each_read_of_a_minidump_is_the_images();
     carry_out(alloc, words, site, link, ports, out)

@@ -3,7 +3,9 @@ use Rattle.std.specs.Prelude.{◌≡◌, ◌⊎◌, ◌≤◌, IsTrue, IfOk, Lis
 use Rattle.std.specs.Bool.{OnTrue, OnFalse}
 use Rattle.fd_site.specs.Contents.{Contents, Told, file_of}
 use Rattle.fd_site.specs.Seen.{Seen}
-use Rattle.fd_image.specs.Image.{MachineImage}
+use Rattle.fd_bytes.specs.declared.arch.Arch.{Arch}
+use Rattle.fd_image.specs.Image.{MachineImage, IsValid}
+use Rattle.fd_gen.specs.Generated.{generated}
 use Rattle.fd_imgfile.specs.Reading.{IsReading, Spells}
 use Rattle.fd_imgfile.specs.declared.fault.ImageFault.{ImageFault}
 use Rattle.fd_imgfile.specs.declared.fault.ImageFault.TheVariants as image
@@ -20,12 +22,33 @@ use Rattle.fd_cli.specs.declared.reply.Reply.{Reply}
 use Rattle.fd_cli.specs.declared.reply.Trouble.{Trouble}
 use Rattle.fd_cli.specs.declared.refusal.Refusal.{Refusal}
 use Rattle.fd_cli.specs.declared.refusal.Refusal.TheVariants.{NoFile, NotImage, BadImage, NoRoom}
+use Rattle.fd_cli.specs.declared.source.Source.{Source}
+use Rattle.fd_cli.specs.declared.source.Source.TheVariants.{File, Made}
 
 -- the file of this name spells this image
 pub record IsNamed (c : Contents) (name : List ℕ) (m : MachineImage) : Type 0 where
   pub file : List ℕ
   pub there : file_of c name ≡ Some file
   pub spells : Spells file m
+
+-- a source names this image
+abbrev pub Names : Contents → Source → MachineImage → Type 0
+Names c (File name) m = IsNamed c name m
+Names c (Made arch number) m = m ≡ generated arch number
+
+-- what making the image of a number may answer: that image, which is a valid one
+abbrev pub IsMaking : Arch → (number : ℕ) → Result MachineImage ImageFault → Type 0
+IsMaking arch number (Ok m) = (m ≡ generated arch number) × IsValid m
+IsMaking arch number (Err image.NoFile) = ⊥
+IsMaking arch number (Err (image.NotImage place)) = ⊥
+IsMaking arch number (Err (image.BadImage bad)) = ⊥
+IsMaking arch number (Err image.SiteFault) = ⊥
+IsMaking arch number (Err image.NoMemory) = Unit {0}
+
+-- what a source may give over what was found
+abbrev pub IsGiven : Source → Seen → Result MachineImage ImageFault → Type 0
+IsGiven (File name) found reading = Told found.told (λ c. IsReading (file_of c name) reading)
+IsGiven (Made arch number) found reading = IsMaking arch number reading
 
 -- the whole dump of an image was written
 pub record Dumps (size block : ℕ) (m : MachineImage) (w : Work) : Type 0 where
@@ -43,7 +66,7 @@ DumpsIfRoom found m w =
     OnTrue (has_room found.size found.block (length (minidump_of m))) (Dumps found.size found.block m w)
     × OnFalse (has_room found.size found.block (length (minidump_of m))) (Refuses (no_room found m) w)
 
--- by what reading the image's file gives
+-- by what the image's source gives
 abbrev pub ByImage : Seen → Result MachineImage ImageFault → Work → Type 0
 ByImage found (Ok m) w = DumpsIfRoom found m w
 ByImage found (Err image.NoFile) w = Refuses NoFile w
@@ -70,24 +93,23 @@ image_dump_row m = record {
 }
 
 -- what is done over a good partition
-abbrev pub DumpsNamed : (name : List ℕ) → Seen → Work → Type 0
-DumpsNamed name found w =
-    (reading : Result MachineImage ImageFault) × Told found.told (λ c. IsReading (file_of c name) reading) × ByImage found reading w
+abbrev pub DumpsSource : Source → Seen → Work → Type 0
+DumpsSource source found w = (given : Result MachineImage ImageFault) × IsGiven source found given × ByImage found given w
 
--- nothing was added, or a dump of the image that the file spells was begun
-abbrev pub MayHaveBegun : (name : List ℕ) → Seen → Added → Type 0
-MayHaveBegun name found added =
-    (added ≡ nothing) ⊎ ((m : MachineImage) × Told found.told (λ c. IsNamed c name m) × HasBegun found.size found.block m added)
+-- nothing was added, or a dump of the image that the source names was begun
+abbrev pub MayHaveBegun : Source → Seen → Added → Type 0
+MayHaveBegun source found added =
+    (added ≡ nothing) ⊎ ((m : MachineImage) × IsGiven source found (Ok m) × HasBegun found.size found.block m added)
 
--- the reply to an image that wasn't read
+-- the reply to an image that wasn't given
 abbrev pub RefusesImage : ImageFault → Result Reply Trouble → Type 0
 RefusesImage fault result =
     IfOk result (λ reply. (answer : Answer) × ((found : Seen) → ByImage found (Err fault) (record { answer = answer; added = nothing })) × IsReplyOf answer reply)
 
-abbrev pub dump_row : (name : List ℕ) → Row
-dump_row name = record {
-  Does = λ found w. OnGood found (DumpsNamed name found) w;
-  Leaves = MayHaveBegun name;
+abbrev pub dump_row : Source → Row
+dump_row source = record {
+  Does = λ found w. OnGood found (DumpsSource source found) w;
+  Leaves = MayHaveBegun source;
   Starves = AddsNothing;
   Says = SaysNothing;
   blames = the_site;

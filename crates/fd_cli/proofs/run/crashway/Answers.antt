@@ -7,13 +7,13 @@ use Rattle.fd_cli.proofs.Sound.{sound}
 use Rattle.fd_cli.proofs.run.crashway.Goals as goal
 
 pub returns-clause-crash : goal.returns-clause-crash
-returns-clause-crash g c name is =
-    each_dump_is_safe name _ _ (λ d told. g.met.S.Site.told_size _ d told)
-    (left_of _ _ _ _ (sound (Some (command.Dump name))) (call_by _ _ _ _ _ is c.carry_out.ensures))
+returns-clause-crash g c source is =
+    each_dump_is_safe source _ _ (λ d told. g.met.S.Site.told_size _ d told)
+    (left_of _ _ _ _ (sound (Some (command.Dump source))) (call_by _ _ _ _ _ is c.carry_out.ensures))
 
 pub returns-clause-found : goal.returns-clause-found
-returns-clause-found g c name is zero =
-    found_of_call _ _ name _ (λ d told. g.met.S.Site.told_size _ d told) (call_by _ _ _ _ _ is c.carry_out.ensures) zero
+returns-clause-found g c source is zero =
+    found_of_call _ _ source _ (λ d told. g.met.S.Site.told_size _ d told) (call_by _ _ _ _ _ is c.carry_out.ensures) zero
 
 pub returns-clause-reads : goal.returns-clause-reads
 returns-clause-reads g c name va count is =
