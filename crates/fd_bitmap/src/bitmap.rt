@@ -98,13 +98,6 @@ impl Bitmap {
         count
     }
 
-    /// How many bits below this one are set. Takes no memory.
-    pub fn count_below(&self, bit: u64) -> u64
-        ensures { result ≡ set_count (take bit self.now) }
-    {
-        set_below(self.bytes.as_slice(), bit.min(self.bits))
-    }
-
     /// The word at this place, its lowest bit first. Zero past the end.
     pub(crate) fn word_at(&self, at: u64) -> u64
         ensures { result ≡ word_at self.now at }
@@ -158,32 +151,4 @@ fn set_each(bytes: &mut [u8], from: u64, end: u64)
     for bit in from..end {
         bytes[(bit / 8) as usize] |= 1 << (bit % 8);
     }
-}
-
-/// How many of the first bits of these bytes are set.
-fn set_below(bytes: &[u8], bits: u64) -> u64
-    requires { bits ≤ 8 * length bytes.now }
-    ensures { result ≡ set_count (take bits (bits_of bytes.now)) }
-{
-    let whole = (bits / 8) as usize;
-    let count = set_in(&bytes[..whole]);
-    match bytes.get(whole) {
-        Some(byte) => {
-            let below = byte & ((1 << (bits % 8)) - 1);
-            count + u64::from(below.count_ones())
-        }
-        None => count,
-    }
-}
-
-/// How many bits of these bytes are set.
-fn set_in(bytes: &[u8]) -> u64
-    requires { 8 * length bytes.now < 2 ^ 64 }
-    ensures { result ≡ set_count (bits_of bytes.now) }
-{
-    let mut count = 0;
-    for byte in bytes {
-        count += u64::from(byte.count_ones());
-    }
-    count
 }

@@ -1,9 +1,9 @@
 //! The calls of an object in memory that can fail.
 
-ghost use Rattle.std.specs.Prelude.{◌≡◌, ◌≤◌, IsTrue, ◌↔◌, true};
-ghost use Rattle.std.specs.Bool.{OnTrue, OnFalse};
+ghost use Rattle.std.specs.Prelude.{◌≡◌, ◌≤◌, ◌↔◌, true, IsErr, IsOk, IsTrue, OnErr, OnOk};
 ghost use Rattle.fd_fake.specs.Calls.{IsDue, after_call, after_fault, no_calls, risen};
 
+use fd_site::Failed;
 use std::marker::Model;
 
 /// The calls of an object in memory that can fail, numbered from 1, and which of them do.
@@ -51,11 +51,11 @@ impl Calls {
         self.next = true;
     }
 
-    /// Counts the next call, and answers whether it is one that fails.
-    pub fn next_fails(&mut self) -> bool
-        ensures due { IsTrue result ↔ IsDue self.old }
-        ensures fails { OnTrue result (self.new ≡ after_fault self.old) }
-        ensures goes_on { OnFalse result (self.new ≡ after_call self.old) }
+    /// Begins the next call, and fails it if it is one that fails.
+    pub fn begin(&mut self) -> Result<(), Failed>
+        ensures due { IsErr result ↔ IsDue self.old }
+        ensures ok { OnOk result (self.new ≡ after_call self.old) }
+        ensures err { OnErr result (self.new ≡ after_fault self.old) }
         ensures rising { self.old.faults ≤ self.new.faults }
     {
         self.made = risen_count(self.made);
@@ -63,17 +63,32 @@ impl Calls {
         self.next = false;
         if due {
             self.faults = risen_count(self.faults);
+            return Err(Failed);
         }
-        due
+        Ok(())
     }
 
-    /// Counts a fault for want of memory.
-    pub fn starve(&mut self)
+    /// Fails a call that found no memory.
+    pub fn starve(&mut self) -> Failed
         ensures counted { self.new ≡ record self.old { faults = risen self.old.faults; starved = risen self.old.starved } }
         ensures rising { self.old.faults ≤ self.new.faults }
     {
         self.faults = risen_count(self.faults);
         self.starved = risen_count(self.starved);
+        Failed
+    }
+
+    /// Ends a call that asked for memory, and fails it where it found none.
+    pub fn end(&mut self, found: bool) -> Result<(), Failed>
+        ensures found { IsOk result ↔ IsTrue found }
+        ensures ok { OnOk result (self.new ≡ self.old) }
+        ensures err { OnErr result (self.new ≡ record self.old { faults = risen self.old.faults; starved = risen self.old.starved }) }
+        ensures rising { self.old.faults ≤ self.new.faults }
+    {
+        if found {
+            return Ok(());
+        }
+        Err(self.starve())
     }
 
     /// How many calls were made.

@@ -80,14 +80,9 @@ impl Link for MemLink {
         ensures count { self.old.calls.faults ≤ self.new.calls.faults }
         ensures cause { OnErr result (Rose self.old.calls.faults self.new.calls.faults) }
     {
-        if self.calls.next_fails() {
-            return Err(Failed);
-        }
-        if self.trace.push(LinkEvent::Opening { server }).is_err() {
-            self.calls.starve();
-            return Err(Failed);
-        }
-        Ok(())
+        self.calls.begin()?;
+        let found = self.trace.push(LinkEvent::Opening { server }).is_ok();
+        self.calls.end(found)
     }
 
     fn send(&mut self, port: u16, bytes: &[u8]) -> Result<(), Failed>
@@ -97,22 +92,12 @@ impl Link for MemLink {
         ensures count { self.old.calls.faults ≤ self.new.calls.faults }
         ensures cause { OnErr result (Rose self.old.calls.faults self.new.calls.faults) }
     {
-        if self.calls.next_fails() {
-            return Err(Failed);
-        }
-        match bytes.to_vec(self.alloc) {
-            Ok(bytes) => {
-                if self.trace.push(LinkEvent::Sent { port, bytes }).is_err() {
-                    self.calls.starve();
-                    return Err(Failed);
-                }
-                Ok(())
-            }
-            Err(_) => {
-                self.calls.starve();
-                Err(Failed)
-            }
-        }
+        self.calls.begin()?;
+        let found = match bytes.to_vec(self.alloc) {
+            Ok(bytes) => self.trace.push(LinkEvent::Sent { port, bytes }).is_ok(),
+            Err(_) => false,
+        };
+        self.calls.end(found)
     }
 
     fn poll(&mut self, out: &mut [u8; 64]) -> Result<Polled, Failed>
@@ -124,12 +109,9 @@ impl Link for MemLink {
         ensures count { self.old.calls.faults ≤ self.new.calls.faults }
         ensures cause { OnErr result (Rose self.old.calls.faults self.new.calls.faults) }
     {
-        if self.calls.next_fails() {
-            return Err(Failed);
-        }
+        self.calls.begin()?;
         if self.trace.reserve(1).is_err() {
-            self.calls.starve();
-            return Err(Failed);
+            return Err(self.calls.starve());
         }
         match self.script.pop_front() {
             Some(Answer::Datagram { port, mut bytes }) => {

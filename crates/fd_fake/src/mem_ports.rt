@@ -86,14 +86,9 @@ impl Ports for MemPorts {
         ensures count { self.old.calls.faults ≤ self.new.calls.faults }
         ensures cause { OnErr result (Rose self.old.calls.faults self.new.calls.faults) }
     {
-        if self.calls.next_fails() {
-            return Err(Failed);
-        }
-        if self.trace.push(PortsEvent::Listening).is_err() {
-            self.calls.starve();
-            return Err(Failed);
-        }
-        Ok(())
+        self.calls.begin()?;
+        let found = self.trace.push(PortsEvent::Listening).is_ok();
+        self.calls.end(found)
     }
 
     fn take(&mut self, out: &mut [u8; 8192]) -> Result<Taken, Failed>
@@ -105,12 +100,9 @@ impl Ports for MemPorts {
         ensures count { self.old.calls.faults ≤ self.new.calls.faults }
         ensures cause { OnErr result (Rose self.old.calls.faults self.new.calls.faults) }
     {
-        if self.calls.next_fails() {
-            return Err(Failed);
-        }
+        self.calls.begin()?;
         if self.trace.reserve(1).is_err() {
-            self.calls.starve();
-            return Err(Failed);
+            return Err(self.calls.starve());
         }
         match self.script.pop_front() {
             Some(
@@ -140,14 +132,9 @@ impl Ports for MemPorts {
         ensures count { self.old.calls.faults ≤ self.new.calls.faults }
         ensures cause { OnErr result (Rose self.old.calls.faults self.new.calls.faults) }
     {
-        if self.calls.next_fails() {
-            return Err(Failed);
-        }
-        if self.trace.push(PortsEvent::SlotOpened { slot }).is_err() {
-            self.calls.starve();
-            return Err(Failed);
-        }
-        Ok(())
+        self.calls.begin()?;
+        let found = self.trace.push(PortsEvent::SlotOpened { slot }).is_ok();
+        self.calls.end(found)
     }
 
     fn answer(&mut self, slot: u16, peer: Peer, bytes: &[u8; 4]) -> Result<(), Failed>
@@ -157,18 +144,13 @@ impl Ports for MemPorts {
         ensures count { self.old.calls.faults ≤ self.new.calls.faults }
         ensures cause { OnErr result (Rose self.old.calls.faults self.new.calls.faults) }
     {
-        if self.calls.next_fails() {
-            return Err(Failed);
-        }
+        self.calls.begin()?;
         let answered = PortsEvent::Answered {
             slot,
             peer,
             bytes: *bytes,
         };
-        if self.trace.push(answered).is_err() {
-            self.calls.starve();
-            return Err(Failed);
-        }
-        Ok(())
+        let found = self.trace.push(answered).is_ok();
+        self.calls.end(found)
     }
 }

@@ -69,13 +69,8 @@ impl Sink for MemSink {
         ensures count { self.old.calls.faults ≤ self.new.calls.faults }
         ensures cause { OnErr result (Rose self.old.calls.faults self.new.calls.faults) }
     {
-        if self.calls.next_fails() {
-            return Err(Failed);
-        }
-        if self.bytes.extend_from_slice(bytes).is_err() {
-            self.calls.starve();
-            return Err(Failed);
-        }
-        Ok(())
+        self.calls.begin()?;
+        let found = self.bytes.extend_from_slice(bytes).is_ok();
+        self.calls.end(found)
     }
 }

@@ -118,9 +118,7 @@ impl Site for MemSite {
         ensures err_calls { OnErr result (self.new.calls ≡ after_fault self.old.calls) }
         ensures cause { OnErr result (Rose self.old.calls.faults self.new.calls.faults) }
     {
-        if self.calls.next_fails() {
-            return Err(Failed);
-        }
+        self.calls.begin()?;
         self.disk.read_part(at, out);
         Ok(())
     }
@@ -135,14 +133,9 @@ impl Site for MemSite {
         ensures err_calls { OnErr result (IsFailedCall self.old.calls self.new.calls) }
         ensures cause { OnErr result (Rose self.old.calls.faults self.new.calls.faults) }
     {
-        if self.calls.next_fails() {
-            return Err(Failed);
-        }
-        if self.disk.write_part(at, bytes).is_err() {
-            self.calls.starve();
-            return Err(Failed);
-        }
-        Ok(())
+        self.calls.begin()?;
+        let found = self.disk.write_part(at, bytes).is_ok();
+        self.calls.end(found)
     }
 
     fn file_len(&mut self, name: &str) -> Result<Option<u64>, Failed>
@@ -155,9 +148,7 @@ impl Site for MemSite {
         ensures err_calls { OnErr result (self.new.calls ≡ after_fault self.old.calls) }
         ensures cause { OnErr result (Rose self.old.calls.faults self.new.calls.faults) }
     {
-        if self.calls.next_fails() {
-            return Err(Failed);
-        }
+        self.calls.begin()?;
         Ok(self.disk.file_len(name))
     }
 
@@ -172,9 +163,7 @@ impl Site for MemSite {
         ensures err_calls { OnErr result (self.new.calls ≡ after_fault self.old.calls) }
         ensures cause { OnErr result (Rose self.old.calls.faults self.new.calls.faults) }
     {
-        if self.calls.next_fails() {
-            return Err(Failed);
-        }
+        self.calls.begin()?;
         self.disk.read_file(name, at, out);
         Ok(())
     }
@@ -189,14 +178,9 @@ impl Site for MemSite {
         ensures err_calls { OnErr result (IsFailedCall self.old.calls self.new.calls) }
         ensures cause { OnErr result (Rose self.old.calls.faults self.new.calls.faults) }
     {
-        if self.calls.next_fails() {
-            return Err(Failed);
-        }
-        if self.disk.create(name).is_err() {
-            self.calls.starve();
-            return Err(Failed);
-        }
-        Ok(())
+        self.calls.begin()?;
+        let found = self.disk.create(name).is_ok();
+        self.calls.end(found)
     }
 
     fn write_file(&mut self, name: &str, at: u64, bytes: &[u8]) -> Result<(), Failed>
@@ -210,14 +194,9 @@ impl Site for MemSite {
         ensures err_calls { OnErr result (IsFailedCall self.old.calls self.new.calls) }
         ensures cause { OnErr result (Rose self.old.calls.faults self.new.calls.faults) }
     {
-        if self.calls.next_fails() {
-            return Err(Failed);
-        }
-        if self.disk.write_file(name, at, bytes).is_err() {
-            self.calls.starve();
-            return Err(Failed);
-        }
-        Ok(())
+        self.calls.begin()?;
+        let found = self.disk.write_file(name, at, bytes).is_ok();
+        self.calls.end(found)
     }
 
     fn sync_file(&mut self, name: &str) -> Result<(), Failed>
@@ -231,14 +210,9 @@ impl Site for MemSite {
         ensures err_calls { OnErr result (IsFailedCall self.old.calls self.new.calls) }
         ensures cause { OnErr result (Rose self.old.calls.faults self.new.calls.faults) }
     {
-        if self.calls.next_fails() {
-            return Err(Failed);
-        }
-        if self.disk.sync_file(name).is_err() {
-            self.calls.starve();
-            return Err(Failed);
-        }
-        Ok(())
+        self.calls.begin()?;
+        let found = self.disk.sync_file(name).is_ok();
+        self.calls.end(found)
     }
 
     ghost told_size = { λ m c is. size_of_told m.disk c is };

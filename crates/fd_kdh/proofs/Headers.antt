@@ -47,14 +47,21 @@ parity_word h = to_be_bytes w32 (xor_all (words (concat (fields_before_parity h)
 
 sized : (h : Header) → FitsFields h → AreSized sizes (fields_before_parity h)
 sized h fits =
-    (refl, (length-filled 12 h.architecture fits.architecture, (refl, (refl, (refl, (refl, (refl, (refl, (length-filled 64 h.hostname fits.hostname, (length-filled 192 h.versionstring fits.versionstring, (length-filled 175 h.panicstring fits.panicstring, (refl, (refl, (refl, tt))))))))))))))
+    let texts : AreSized (drop 8 sizes) (drop 8 (fields_before_parity h)) =
+    (length-filled 64 h.hostname fits.hostname, (length-filled 192 h.versionstring fits.versionstring, (length-filled 175 h.panicstring fits.panicstring, (refl, (refl, (refl, tt)))))) in
+    (refl, (length-filled 12 h.architecture fits.architecture, (refl, (refl, (refl, (refl, (refl, (refl, texts))))))))
 
 magic_bytes : AllBytes live_magic
 magic_bytes = AllBytes-from_test live_magic refl
 
 each_bytes : (h : Header) → IsWithinFields h → EachBytes (fields_before_parity h)
 each_bytes h within =
-    (magic_bytes, (AllBytes-filled 12 h.architecture within.architecture, (AllBytes-be32 4, (AllBytes-be32 h.architectureversion, (AllBytes-be64 h.dumplength, (AllBytes-be64 h.dumptime, (AllBytes-be32 h.dumpkeysize, (AllBytes-be32 h.blocksize, (AllBytes-filled 64 h.hostname within.hostname, (AllBytes-filled 192 h.versionstring within.versionstring, (AllBytes-filled 175 h.panicstring within.panicstring, ((within.compression, tt), (AllBytes-be64 h.dumpextent, (AllBytes-be32 0, tt))))))))))))))
+    let last : EachBytes (drop 11 (fields_before_parity h)) = ((within.compression, tt), (AllBytes-be64 h.dumpextent, (AllBytes-be32 0, tt))) in
+    let texts : EachBytes (drop 8 (fields_before_parity h)) =
+    (AllBytes-filled 64 h.hostname within.hostname, (AllBytes-filled 192 h.versionstring within.versionstring, (AllBytes-filled 175 h.panicstring within.panicstring, last))) in
+    let numbers : EachBytes (drop 4 (fields_before_parity h)) =
+    (AllBytes-be64 h.dumplength, (AllBytes-be64 h.dumptime, (AllBytes-be32 h.dumpkeysize, (AllBytes-be32 h.blocksize, texts)))) in
+    (magic_bytes, (AllBytes-filled 12 h.architecture within.architecture, (AllBytes-be32 4, (AllBytes-be32 h.architectureversion, numbers))))
 
 -- all fields but the parity word have 508 bytes, and a header has 512
 length-fields : (h : Header) → FitsFields h → length (concat (fields_before_parity h)) ≡ 508
@@ -65,11 +72,6 @@ unfolding dump_header
 length-dump_header h fits =
     let front : List ℕ = concat (fields_before_parity h) in
     omega (arith, length-fields h fits, length-append front (to_be_bytes w32 (xor_all (words front))))
-
--- it begins with the live magic
-pub take-dump_header : (h : Header) → FitsFields h → take 20 (dump_header h) ≡ live_magic
-unfolding dump_header
-take-dump_header h fits = part sizes (fields_before_parity h) (parity_word h) 0 (sized h fits) (lit< tt)
 
 -- the exclusive or of its words is 0
 pub xor_all-dump_header : (h : Header) → IsWithinFields h → xor_all (words (dump_header h)) ≡ 0
@@ -121,7 +123,7 @@ pub decoded-dump_header : (h : Header) → IsWithinFields h → decoded (dump_he
 unfolding dump_header
 decoded-dump_header h within = back h within
 
--- only bytes that begin with the live magic are a header, and those of a cleared dump are told apart
+-- only bytes that begin with the live magic are a header
 pub take-decoded : (bytes : List ℕ) (h : Header) → decoded bytes ≡ Ok h → take 20 bytes ≡ live_magic
 unfolding decoded
 take-decoded bytes h is =
@@ -133,7 +135,3 @@ take-decoded bytes h is =
     by_tests false true is_live live is = absurd (cc)
     by_tests false false false live is = absurd (cc)
     by_tests false false true live is = sym ((bytes_eq-Decides live_magic (take 20 bytes)).0 (sym live))
-
-pub decoded-cleared : (bytes : List ℕ) → take 20 bytes ≡ cleared_magic → decoded bytes ≡ Err Cleared
-unfolding decoded
-decoded-cleared bytes is = ap (λ magic. by_magic magic bytes) is

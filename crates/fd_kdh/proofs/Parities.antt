@@ -5,10 +5,6 @@ use Rattle.std.specs.Int.Bits.{xor_assoc, xor_self, xor_zero_l, xor_zero_r}
 use Rattle.std.specs.Int.{w32, to_be_bytes, from_be_bytes}
 use Rattle.fd_kdh.specs.Parity.{words, xor_all}
 
--- one word more is taken up
-pub xor_more : (all n rest : ℕ) → bit_xor (bit_xor all n) rest ≡ bit_xor all (bit_xor n rest)
-xor_more all n rest = xor_assoc all n rest
-
 pub ruleset xor_steps = (xor_zero_l, xor_zero_r)
 
 pub words-append : (xs ys : List ℕ) → length xs % 4 ≡ 0 → words (xs ++ ys) ≡ words xs ++ words ys

@@ -1,5 +1,5 @@
 -- The bytes of some addresses, then those of the addresses behind them.
-use Rattle.std.proofs.Common.{◌≡◌, ℕ, zero, suc, ◌+◌, ◌-◌, ◌^◌, ◌<◌, ◌≤◌, List, [], ◌∷◌, ◌++◌, length, get_or, slice_index, take, drop, slice_range, Some, None, Result, Ok, Err, refl, sym, ap, ◌∙◌, arith}
+use Rattle.std.proofs.Common.{◌≡◌, ℕ, zero, suc, ◌+◌, ◌-◌, ◌%◌, ◌^◌, ◌<◌, ◌≤◌, List, [], ◌∷◌, ◌++◌, length, get_or, slice_index, take, drop, slice_range, Some, None, Result, Ok, Err, refl, sym, ap, ◌∙◌, arith}
 use Rattle.std.proofs.lemmas.List.{append-nil, drop_all, drop_more, take_at, drop_at, length-take-le, length-drop, drop-drop}
 use Rattle.std.proofs.Math.Seq.{take-add}
 use Rattle.std.proofs.lemmas.Bool.Decides.{nat_tests}
@@ -74,9 +74,9 @@ fault_first byte_at va (suc count) fault some is = ap (λ r. byte_before r (byte
 
 -- bytes of the file that were read to the front of a buffer
 pub front_read :
-    (f old read : List ℕ) (byte_at : ℕ → Result ℕ AddressFault) (va count : ℕ) (run : Run) → IsRun f byte_at va run → count ≤ run.len → count ≤ length old
+    (f old read : List ℕ) (byte_at : ℕ → Result ℕ AddressFault) (va count : ℕ) (run : Run) → IsRun f byte_at va run → run.place % 4096 + run.len ≤ 4096 → count ≤ run.len → count ≤ length old
     → read ≡ slice_range f run.place (run.place + length (take count old)) → IsFront byte_at va old (read ++ drop count old) count
-front_read f old read byte_at va count run is few room bytes =
+front_read f old read byte_at va count run is one few room bytes =
     let inside : run.place + count ≤ length f = omega (arith, is.inside) in
     let size : run.place + length (take count old) - run.place ≡ count = omega (arith, length-take-le count old room) in
     let same : read ≡ take count (drop run.place f) = bytes ∙ ap (λ n. take n (drop run.place f)) size in

@@ -9,6 +9,7 @@ use Rattle.fd_kvm.specs.Answer.{byte_in, by_physical, by_offset}
 use Rattle.fd_kvm.specs.Place.{placed}
 use Rattle.fd_kvm.specs.Runs.{IsSpan, IsRun}
 use Rattle.fd_kvm.specs.declared.span.Span.{Span}
+use Rattle.fd_kvm.proofs.Standing.{page_whole}
 
 -- the page is found by its number
 same_page : (s : Sections) (pa i : ℕ) → i < 4096 - pa % 4096 → page_offset s (pa + i) ≡ page_offset s pa
@@ -35,6 +36,7 @@ pub dumped :
     → IsRun f (byte_in f s) va (record { place = page + span.pa % 4096; len = min span.len (4096 - span.pa % 4096) })
 dumped f s va span page stands is found =
     let room = page_inside f s span.pa page (whole f s stands) found in
+    let begins = page_whole s span.pa page found in
     record {
       inside = omega arith;
       bytes = λ i within. next_byte f s va span.pa page i (is i (omega arith)) found (omega arith);

@@ -1,18 +1,17 @@
 -- Addresses that one entry of the directory maps, or the direct map, stand for physical addresses one after another.
-use Rattle.std.proofs.Common.{lit<, ◌≡◌, ℕ, ◌+◌, ◌-◌, ◌*◌, ◌/◌, ◌%◌, ◌<◌, ◌≤◌, true, false, not, ◌||◌, nat_le, nat_lt, min, inl, inr, List, Some, Result, Ok, Err, sym, ap, ◌∙◌, arith}
+use Rattle.std.proofs.Common.{◌≡◌, ℕ, ◌+◌, ◌-◌, ◌*◌, ◌/◌, ◌%◌, ◌<◌, ◌≤◌, true, false, not, ◌||◌, nat_le, nat_lt, min, inl, inr, List, Some, Result, Ok, Err, sym, ap, ◌∙◌, arith}
 use Rattle.std.proofs.lemmas.Bool.{and_parts, and_from, and_cases, and_left, and_right, or_cases, or_left, or_right, or_parts, not-true, ltb-true, ltb-false, leb-true, leb-false, lt-ltb, le-ltb, lt-leb, le-leb, cases_Bool, cases_lt, both_ways, or_from}
 use Rattle.std.proofs.lemmas.Bool.Decides.{nat_tests}
+use Rattle.std.proofs.lemmas.Nat.{pow_pos}
 use Rattle.fd_bytes.specs.Field.{u64_le_at}
 use Rattle.fd_bytes.specs.declared.arch.Arch.{Arch}
-use Rattle.fd_bytes.specs.declared.arch.Arch.TheVariants.{Amd64, Arm64, Riscv}
-use Rattle.fd_pte.specs.Architecture.{directory_height_of, kind_of}
-use Rattle.fd_pte.specs.Entry.{bytes_under}
+use Rattle.fd_pte.specs.Architecture.{kind_of}
 use Rattle.fd_pte.specs.declared.entry.Kind.{Kind}
 use Rattle.fd_pte.specs.declared.entry.Kind.TheVariants.{Leaf}
 use Rattle.fd_mini.specs.declared.header.MiniHeader.{MiniHeader}
 use Rattle.fd_mini.specs.declared.address_fault.AddressFault.{AddressFault}
 use Rattle.fd_mini.specs.declared.address_fault.AddressFault.TheVariants.{Outside}
-use Rattle.fd_mini.specs.Layout.{unit_of}
+use Rattle.fd_mini.specs.Layout.{entry_height_of, unit_of}
 use Rattle.fd_mini.specs.Places.{places_of}
 use Rattle.fd_vmcore.specs.Sections.{Sections}
 use Rattle.fd_kvm.specs.Place.{entry_index, is_in_kernel_window, is_in_direct_map, window_is_first, by_table_entry, by_table, table_entry, by_entry, by_directory, by_direct_map, directory_entry, placed}
@@ -21,11 +20,6 @@ use Rattle.fd_kvm.specs.declared.fault.ReadFault.{ReadFault}
 use Rattle.fd_kvm.specs.declared.fault.ReadFault.TheVariants.{Address, SiteFault}
 use Rattle.fd_kvm.proofs.Choice.{chosen_window, chosen_direct, chosen_none}
 use Rattle.fd_kvm.proofs.Quotients.{same_quotient, next_remainder, quotient_grows}
-
-unit_of_arch : (arch : Arch) → 0 < bytes_under (directory_height_of arch)
-unit_of_arch Amd64 = lit< tt
-unit_of_arch Arm64 = lit< tt
-unit_of_arch Riscv = lit< tt
 
 -- what an address in the kernel window is
 pub in_window : (h : MiniHeader) (va : ℕ) → is_in_kernel_window h va ≡ true → (h.kernbase ≤ va) × (entry_index h va < h.pmapsize / 8)
@@ -84,7 +78,7 @@ still_by_window h va i is within =
 -- an address is mapped by the directory's entry
 pub by_window_here :
     (f : List ℕ) (s : Sections) (va : ℕ) (kind : Kind) → is_by_window s.header va ≡ true
-    → kind ≡ kind_of s.header.arch (directory_entry f s.header va) (directory_height_of s.header.arch) → placed f s va ≡ by_entry f s va kind
+    → kind ≡ kind_of s.header.arch (directory_entry f s.header va) (entry_height_of s.header) → placed f s va ≡ by_entry f s va kind
 unfolding placed
 by_window_here f s va kind is entry =
     chosen_window (window_is_first s.header) (is_in_kernel_window s.header va) (is_in_direct_map s.header va) (by_directory f s va) (by_direct_map s.header va) (Err (Outside va)) is
@@ -93,7 +87,7 @@ by_window_here f s va kind is entry =
 -- and so are those behind it
 pub by_window :
     (f : List ℕ) (s : Sections) (va i : ℕ) (kind : Kind) → is_by_window s.header va ≡ true
-    → kind ≡ kind_of s.header.arch (directory_entry f s.header va) (directory_height_of s.header.arch) → i < window_limit s.header va
+    → kind ≡ kind_of s.header.arch (directory_entry f s.header va) (entry_height_of s.header) → i < window_limit s.header va
     → placed f s (va + i) ≡ by_entry f s (va + i) kind
 by_window f s va i kind is entry within =
     let h = s.header in
@@ -101,7 +95,7 @@ by_window f s va i kind is entry within =
     let few = below_min i (unit_of h - unit_offset h va) (up_to va h.dmapbase) within in
     let same = same_index h va i inside.0 few.0 in
     by_window_here f s (va + i) kind (still_by_window h va i is within)
-    (entry ∙ ap (λ n. kind_of h.arch (u64_le_at f ((places_of h).directory + 8 * n)) (directory_height_of h.arch)) (sym same))
+    (entry ∙ ap (λ n. kind_of h.arch (u64_le_at f ((places_of h).directory + 8 * n)) (entry_height_of h)) (sym same))
 
 -- the addresses of a page that a table's entry maps
 pub page_next :
@@ -124,7 +118,7 @@ earlier_in_window : (h : MiniHeader) (va i : ℕ) → is_in_kernel_window h (va 
 earlier_in_window h va i later within =
     let inside = in_window h (va + i) later in
     let low = not_below va h.kernbase i within inside.0 in
-    let grows : entry_index h va ≤ entry_index h (va + i) = quotient_grows (va - h.kernbase) (va + i - h.kernbase) (unit_of h) (unit_of_arch h.arch) (omega arith) in
+    let grows : entry_index h va ≤ entry_index h (va + i) = quotient_grows (va - h.kernbase) (va + i - h.kernbase) (unit_of h) (pow_pos (12 + 9 * entry_height_of h)) (omega arith) in
     window_at h va low (omega (arith, inside.1))
 
 -- the kernel window isn't asked for the later addresses of the direct map either
@@ -171,13 +165,13 @@ outside f s va is direct =
 -- The kind that was found is the kind of the directory's entry.
 pub kind_found :
     (f : List ℕ) (s : Sections) (va : ℕ) (h : MiniHeader) (directory index bits height : ℕ) (kind : Kind) → h ≡ s.header
-    → directory ≡ (places_of s.header).directory → index ≡ entry_index h va → bits ≡ u64_le_at f (directory + 8 * index) → height ≡ directory_height_of h.arch
-    → kind ≡ kind_of h.arch bits height → kind ≡ kind_of s.header.arch (directory_entry f s.header va) (directory_height_of s.header.arch)
+    → directory ≡ (places_of s.header).directory → index ≡ entry_index h va → bits ≡ u64_le_at f (directory + 8 * index) → height ≡ entry_height_of h
+    → kind ≡ kind_of h.arch bits height → kind ≡ kind_of s.header.arch (directory_entry f s.header va) (entry_height_of s.header)
 kind_found f s va h directory index bits height kind same_header same_directory same_index read low is =
     is
     ∙ ap (kind_of h.arch bits) low
-    ∙ ap (λ (g : MiniHeader). kind_of g.arch bits (directory_height_of g.arch)) same_header
-    ∙ ap (λ b. kind_of s.header.arch b (directory_height_of s.header.arch)) (read ∙ ap (λ n. u64_le_at f (n + 8 * index)) same_directory
+    ∙ ap (λ (g : MiniHeader). kind_of g.arch bits (entry_height_of g)) same_header
+    ∙ ap (λ b. kind_of s.header.arch b (entry_height_of s.header)) (read ∙ ap (λ n. u64_le_at f (n + 8 * index)) same_directory
     ∙ ap (λ n. u64_le_at f ((places_of s.header).directory + 8 * n)) (same_index ∙ ap (λ (g : MiniHeader). entry_index g va) same_header))
 
 -- A fault of the entry is the address's fault.

@@ -4,10 +4,10 @@ use Rattle.std.specs.Prelude.{ℕ, ◌+◌, ◌-◌, ◌*◌, ◌/◌, ◌%◌, 
 use Rattle.fd_bytes.specs.Field.{u64_le_at}
 use Rattle.fd_bytes.specs.Profile.{profile_of}
 use Rattle.fd_bytes.specs.declared.arch.Arch.{Arch}
-use Rattle.fd_pte.specs.Architecture.{directory_height_of, kind_of}
+use Rattle.fd_pte.specs.Architecture.{kind_of}
 use Rattle.fd_pte.specs.declared.entry.Kind.{Kind}
 use Rattle.fd_pte.specs.declared.entry.Kind.TheVariants.{Absent, Table, Leaf}
-use Rattle.fd_mini.specs.Layout.{unit_of}
+use Rattle.fd_mini.specs.Layout.{entry_height_of, unit_of}
 use Rattle.fd_mini.specs.Places.{places_of}
 use Rattle.fd_mini.specs.declared.header.MiniHeader.{MiniHeader}
 use Rattle.fd_mini.specs.declared.address_fault.AddressFault.{AddressFault}
@@ -34,7 +34,7 @@ by_table_entry va kind = Err (NotMapped va)
 abbrev pub table_entry : List ℕ → (place va : ℕ) → ℕ
 table_entry f place va = u64_le_at f (place + 8 * (va / 4096 % 512))
 
--- by where a page table stands, if it is dumped
+-- by where a page table stands, if it is dumped; entries of height 0 name none
 abbrev pub by_table : List ℕ → Arch → (va : ℕ) → Option ℕ → Result ℕ AddressFault
 by_table f arch va None = Err (TableMissing va)
 by_table f arch va (Some place) = by_table_entry va (kind_of arch (table_entry f place va) 0)
@@ -52,7 +52,7 @@ directory_entry f h va = u64_le_at f ((places_of h).directory + 8 * entry_index 
 -- of an address in the kernel window
 abbrev pub by_directory : List ℕ → Sections → ℕ → Result ℕ AddressFault
 by_directory f s va =
-    by_entry f s va (kind_of s.header.arch (directory_entry f s.header va) (directory_height_of s.header.arch))
+    by_entry f s va (kind_of s.header.arch (directory_entry f s.header va) (entry_height_of s.header))
 
 -- of an address in the direct map
 abbrev pub by_direct_map : MiniHeader → ℕ → Result ℕ AddressFault

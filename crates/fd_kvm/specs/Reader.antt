@@ -1,20 +1,27 @@
 -- A reader of a vmcore, and what its reads answer.
 use Rattle.std.specs.Prelude.{◌≡◌, ℕ, List, ◌++◌, length, drop, Some, None, IsSomeAnd, Result, Ok, Err}
 use Rattle.fd_site.specs.Contents.{Contents, file_of}
+use Rattle.fd_cache.specs.Pages.{HoldsPagesOf}
 use Rattle.fd_mini.specs.Kernel.{KernelBytes}
 use Rattle.fd_vmcore.specs.Sections.{Sections, opened}
 use Rattle.fd_vmcore.specs.declared.open.OpenFault.{OpenFault}
 use Rattle.fd_kvm.specs.declared.fault.ReadFault.{ReadFault}
 use Rattle.fd_kvm.specs.declared.fault.ReadFault.TheVariants.{Address, SiteFault}
 
--- a file's name, and its sections
+-- a file's name, its sections, and those of its pages that are kept, by their places in it
 pub record Reader : Type 0 where
   pub name : List ℕ
   pub sections : Sections
+  pub pages : List (ℕ × List ℕ)
 
--- a reader stands for the file of its name: opening that gives its sections
+-- a file that opens as these sections, and of which these are pages
+pub record IsFileOf (s : Sections) (pages : List (ℕ × List ℕ)) (f : List ℕ) : Type 0 where
+  pub opens : opened f ≡ Ok s
+  pub holds : HoldsPagesOf pages f
+
+-- a reader stands for the file of its name: opening that gives its sections, and each page that it keeps is the file's
 abbrev pub StandsFor : Reader → Contents → Type 0
-StandsFor reader c = IsSomeAnd (file_of c reader.name) (λ f. opened f ≡ Ok reader.sections)
+StandsFor reader c = IsSomeAnd (file_of c reader.name) (IsFileOf reader.sections reader.pages)
 
 -- the sections of an opened reader
 abbrev pub sections_of : Result Reader OpenFault → Result Sections OpenFault

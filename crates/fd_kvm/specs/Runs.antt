@@ -5,6 +5,7 @@ use Rattle.fd_mini.specs.Layout.{unit_of}
 use Rattle.fd_mini.specs.declared.header.MiniHeader.{MiniHeader}
 use Rattle.fd_mini.specs.declared.address_fault.AddressFault.{AddressFault}
 use Rattle.fd_mini.specs.declared.address_fault.AddressFault.TheVariants.{PastTop}
+use Rattle.fd_kvm.specs.OpenFile.{HasBlock}
 use Rattle.fd_kvm.specs.Place.{is_in_kernel_window, is_in_direct_map, window_is_first}
 use Rattle.fd_kvm.specs.declared.fault.ReadFault.{ReadFault}
 use Rattle.fd_kvm.specs.declared.fault.ReadFault.TheVariants.{Address, SiteFault}
@@ -33,9 +34,9 @@ IsSpan placed_at va (Ok span) = (i : ℕ) → i < span.len → placed_at (va + i
 IsSpan placed_at va (Err (Address fault)) = placed_at va ≡ Err fault
 IsSpan placed_at va (Err SiteFault) = Unit {0}
 
--- kernel addresses whose bytes follow one another in the file
+-- kernel addresses whose bytes follow one another in a block of the file
 pub record IsRun (f : List ℕ) (byte_at : ℕ → Result ℕ AddressFault) (va : ℕ) (run : Run) : Type 0 where
-  pub inside : run.place + run.len ≤ length f
+  pub inside : HasBlock run.place f
   pub bytes : (i : ℕ) → i < run.len → byte_at (va + i) ≡ Ok (slice_index f (run.place + i))
 
 -- a run of bytes, or why the first address has none

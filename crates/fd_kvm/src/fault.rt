@@ -2,7 +2,6 @@
 ghost use Rattle.std.specs.Prelude.{◌≡◌};
 
 use fd_mini::AddressFault;
-use fd_site::Failed;
 
 /// Why kernel memory wasn't read.
 #[derive(Clone, Copy, PartialEq, Eq, Debug)]
@@ -13,12 +12,12 @@ pub enum ReadFault {
     SiteFault,
 }
 
-impl From<Failed> for ReadFault {
+impl From<fd_site::SiteFault> for ReadFault {
     ghost use Rattle.fd_kvm.specs.declared.fault.ReadFault.TheVariants.{SiteFault};
 
     ghost from_gives = { λ _ fault. fault ≡ SiteFault };
 
-    fn from(_: Failed) -> ReadFault {
+    fn from(_: fd_site::SiteFault) -> ReadFault {
         ReadFault::SiteFault
     }
 }

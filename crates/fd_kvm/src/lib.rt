@@ -1,7 +1,9 @@
 //! Kernel memory out of a saved minidump: the bytes at kernel addresses, through the kernel window's page directory and the
-//! direct map, as kvm_read of kvm(3) gives them. Stands on `fd_vmcore` for the file's sections and on `fd_pte` for entries.
+//! direct map, as kvm_read of kvm(3) gives them. Stands on `fd_vmcore` for the file's sections, on `fd_cache` for its pages
+//! and on `fd_pte` for entries.
 #![tactic(auto)]
 
+mod block;
 mod fault;
 mod read;
 mod reader;
@@ -9,6 +11,7 @@ mod run;
 mod span;
 #[cfg(test)]
 mod tests;
+mod vmcore;
 
 pub use fault::ReadFault;
 pub use reader::Kvm;

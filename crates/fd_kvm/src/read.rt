@@ -5,23 +5,30 @@ ghost use Rattle.fd_site.specs.Fault.{Rose};
 ghost use Rattle.fd_site.specs.Seen.{Untouched};
 ghost use Rattle.fd_mini.specs.declared.address_fault.AddressFault.TheVariants.{PastTop};
 ghost use Rattle.fd_kvm.specs.Answer.{bytes_in};
-ghost use Rattle.fd_kvm.specs.Reader.{IsRead, StandsFor};
+ghost use Rattle.fd_kvm.specs.OpenFile.{StandsWith};
+ghost use Rattle.fd_kvm.specs.Reader.{IsRead};
 ghost use Rattle.fd_kvm.specs.declared.fault.ReadFault.TheVariants.{Address, SiteFault};
 
 use crate::fault::ReadFault;
-use crate::reader::Kvm;
+use crate::vmcore::Vmcore;
+use fd_cache::Pages;
 use fd_mini::AddressFault;
 use fd_site::Site;
 
-impl Kvm {
-    /// Reads the bytes at kernel addresses from `va` on, as many as `out` has. Where an address has no byte, `out` has
-    /// the bytes before the first such address, and is unchanged from there on. After a fault of the site it has any
-    /// bytes. It takes no memory.
-    pub fn read<S: Site>(&self, site: &mut S, va: u64, out: &mut [u8]) -> Result<(), ReadFault>
-        requires { Told (S.seen site.old).told (StandsFor self.now) }
+impl Vmcore {
+    // Reads the bytes at kernel addresses from `va` on, run by run, up to the first address that has no byte.
+    pub(crate) fn read<S: Site>(
+        &self,
+        pages: &mut Pages,
+        site: &mut S,
+        va: u64,
+        out: &mut [u8],
+    ) -> Result<(), ReadFault>
+        requires { Told (S.seen site.old).told (StandsWith self.now pages.old) }
         ensures read { Told (S.seen site.old).told (λ c. (f : List ℕ) → file_of c self.now.name ≡ Some f
             → IsRead (bytes_in f self.now.sections va (length out.old)) out.old out.new result) }
         ensures past_top { 2 ^ 64 < va + length out.old ↔ result ≡ Err (Address PastTop) }
+        ensures stands { Told (S.seen site.new).told (StandsWith self.now pages.new) }
         ensures untouched { Untouched (S.seen site.old) (S.seen site.new) }
         ensures cause { IsErrOf result SiteFault → Rose (S.seen site.old).faults (S.seen site.new).faults }
     {
@@ -30,7 +37,7 @@ impl Kvm {
         }
         let mut at = 0;
         while at < out.len() {
-            at += self.read_run(site, va + at as u64, &mut out[at..])?;
+            at += self.read_run(pages, site, va + at as u64, &mut out[at..])?;
         }
         Ok(())
     }

@@ -1,83 +1,80 @@
 //! A reader of one vmcore.
-ghost use Rattle.std.specs.Prelude.{◌≡◌, ◌^◌, ◌<◌, ◌≤◌, IfOk, IfSome, IsErrOf, IsTrue};
+ghost use Rattle.std.specs.Prelude.{◌≡◌, ℕ, ◌+◌, ◌^◌, ◌<◌, ◌≤◌, ◌↔◌, List, Some, Err, IfOk, IsErrOf, IsTrue, length};
 ghost use Rattle.fd_site.specs.Contents.{Told, file_of};
 ghost use Rattle.fd_site.specs.Fault.{Rose};
 ghost use Rattle.fd_site.specs.Name.{is_good_name};
 ghost use Rattle.fd_site.specs.Seen.{Untouched};
-ghost use Rattle.fd_mini.specs.Places.{places_of};
-ghost use Rattle.fd_vmcore.specs.Sections.{IsOpening, page_offset};
-ghost use Rattle.fd_vmcore.specs.declared.open.OpenFault.TheVariants.{SiteFault};
-ghost use Rattle.fd_kvm.specs.Reader.{StandsFor, sections_of};
+ghost use Rattle.fd_vmcore.specs.Sections.{IsOpening};
+ghost use Rattle.fd_kvm.specs.Answer.{bytes_in};
+ghost use Rattle.fd_kvm.specs.Reader.{IsRead, StandsFor, sections_of};
 
-use fd_mini::MiniHeader;
+use crate::fault::ReadFault;
+use crate::vmcore::Vmcore;
+use fd_cache::Pages;
+use fd_mini::AddressFault;
 use fd_site::Site;
 use fd_vmcore::{Core, OpenFault};
 use std::alloc::Global;
 use std::marker::Model;
 
-/// A reader of one vmcore. It stands for the file of its name as long as that stays as it was when it was opened.
+/// A reader of one vmcore, which keeps the pages of the file that it read last. It stands for the file of its name as long
+/// as that stays as it was when it was opened.
 #[derive(Drop)]
 pub struct Kvm {
-    name: String,
-    core: Core,
+    vmcore: Vmcore,
+    pages: Pages,
 }
 
 impl Model for Kvm {
-    ghost use Rattle.std.specs.Prelude.{IsTrue, string_bytes};
-    ghost use Rattle.fd_site.specs.Name.{is_good_name};
-    ghost use Rattle.fd_site.specs.Seen.{Untouched};
     ghost use Rattle.fd_kvm.specs.Reader.{Reader};
 
     ghost Value = { Reader };
 
-    ghost view = { λ kvm. record { name = string_bytes kvm.name; sections = kvm.core } };
-
-    ghost invariant = { λ kvm. IsTrue (is_good_name (string_bytes kvm.name)) };
+    ghost view = { λ kvm. record { name = kvm.vmcore.name; sections = kvm.vmcore.sections; pages = kvm.pages } };
 }
 
 impl Kvm {
-    /// Opens the file of this name, or answers the first reason to refuse it.
-    pub fn open<S: Site>(alloc: Global, site: &mut S, name: &str) -> Result<Kvm, OpenFault>
-        requires { IsTrue (is_good_name name.now) }
+    /// Opens the file of this name, or answers the first reason to refuse it. The reader keeps up to `capacity` pages of
+    /// 4096 bytes of it, for which it takes memory as it reads them.
+    pub fn open<S: Site>(
+        alloc: Global,
+        site: &mut S,
+        name: &str,
+        capacity: usize,
+    ) -> Result<Kvm, OpenFault>
+        requires name { IsTrue (is_good_name name.now) }
+        requires some { 0 < capacity }
+        requires most { capacity ≤ 4096 }
         ensures opening { Told (S.seen site.old).told (λ c. IsOpening (file_of c name.now) (sections_of result)) }
         ensures name { IfOk result (λ kvm. kvm.name ≡ name.now) }
         ensures stands { IfOk result (λ kvm. Told (S.seen site.new).told (StandsFor kvm)) }
         ensures untouched { Untouched (S.seen site.old) (S.seen site.new) }
-        ensures cause { IsErrOf result SiteFault → Rose (S.seen site.old).faults (S.seen site.new).faults }
+        ensures cause { IsErrOf result OpenFault.SiteFault → Rose (S.seen site.old).faults (S.seen site.new).faults }
     {
         let core = Core::open(alloc, site, name)?;
         let name = String::from_str(alloc, name)?;
-        Ok(Kvm { name, core })
+        let pages = Pages::new(alloc, capacity)?;
+        Ok(Kvm {
+            vmcore: Vmcore { name, core },
+            pages,
+        })
     }
 
-    // The file's name.
-    pub(crate) fn name(&self) -> &str
-        ensures text { result.now ≡ self.now.name }
-        ensures good { IsTrue (is_good_name self.now.name) }
+    /// Reads the bytes at kernel addresses from `va` on, as many as `out` has. Where an address has no byte, `out` has
+    /// the bytes before the first such address, and is unchanged from there on. After a fault of the site it has any
+    /// bytes. It needs no memory: a page that can't be kept for want of it is read all the same. After any answer the
+    /// reader stands for the same file.
+    pub fn read<S: Site>(&mut self, site: &mut S, va: u64, out: &mut [u8]) -> Result<(), ReadFault>
+        requires { Told (S.seen site.old).told (StandsFor self.old) }
+        ensures read { Told (S.seen site.old).told (λ c. (f : List ℕ) → file_of c self.old.name ≡ Some f
+            → IsRead (bytes_in f self.old.sections va (length out.old)) out.old out.new result) }
+        ensures past_top { 2 ^ 64 < va + length out.old ↔ result ≡ Err (ReadFault.Address AddressFault.PastTop) }
+        ensures stands { Told (S.seen site.new).told (StandsFor self.new) }
+        ensures name { self.new.name ≡ self.old.name }
+        ensures sections { self.new.sections ≡ self.old.sections }
+        ensures untouched { Untouched (S.seen site.old) (S.seen site.new) }
+        ensures cause { IsErrOf result ReadFault.SiteFault → Rose (S.seen site.old).faults (S.seen site.new).faults }
     {
-        self.name.as_str()
-    }
-
-    // The fields of the header page.
-    pub(crate) fn header(&self) -> &MiniHeader
-        ensures { result.now ≡ self.now.sections.header }
-    {
-        self.core.header()
-    }
-
-    // Where the page directory begins in the file.
-    pub(crate) fn directory(&self) -> u64
-        ensures place { result ≡ (places_of self.now.sections.header).directory }
-        ensures limit { result < 2 ^ 62 }
-    {
-        self.core.places().directory
-    }
-
-    // Where the page of a physical address stands in the file, if it is dumped.
-    pub(crate) fn find(&self, pa: u128) -> Option<u64>
-        ensures place { result ≡ page_offset self.now.sections pa }
-        ensures limit { IfSome result (λ page. page < 2 ^ 62) }
-    {
-        self.core.find_wide(pa)
+        self.vmcore.read(&mut self.pages, site, va, out)
     }
 }

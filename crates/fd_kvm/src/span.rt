@@ -1,22 +1,21 @@
 //! The physical addresses that kernel addresses stand for.
-ghost use Rattle.std.specs.Prelude.{◌≡◌, ℕ, ◌+◌, ◌-◌, ◌*◌, ◌%◌, ◌<◌, ◌≤◌, ◌^◌, List, Some, IfOk, IsErrOf, IsTrue, IsSomeAnd, OnErr, length, min};
+ghost use Rattle.std.specs.Prelude.{◌≡◌, ℕ, ◌+◌, ◌-◌, ◌*◌, ◌%◌, ◌<◌, ◌≤◌, ◌^◌, List, Some, IfOk, IsErrOf, IsTrue, min};
 ghost use Rattle.fd_site.specs.Contents.{Told, file_of};
 ghost use Rattle.fd_site.specs.Fault.{Rose};
 ghost use Rattle.fd_site.specs.Seen.{Untouched};
-ghost use Rattle.fd_bytes.specs.Field.{u64_le_at};
 ghost use Rattle.fd_vmcore.specs.Sections.{page_offset};
 ghost use Rattle.fd_mini.specs.Layout.{unit_of};
+ghost use Rattle.fd_kvm.specs.OpenFile.{StandsWith};
 ghost use Rattle.fd_kvm.specs.Place.{is_in_kernel_window, is_in_direct_map, entry_index, by_entry, by_table, placed};
-ghost use Rattle.fd_kvm.specs.Reader.{StandsFor};
 ghost use Rattle.fd_kvm.specs.Runs.{IsOfAddress, IsSpan, is_by_window, unit_offset, up_to, window_limit};
 ghost use Rattle.fd_kvm.specs.declared.fault.ReadFault.TheVariants.{SiteFault};
 
 use crate::fault::ReadFault;
-use crate::reader::Kvm;
-use fd_bytes::get_u64_le;
-use fd_mini::{AddressFault, MiniHeader, unit_of};
-use fd_pte::{Kind, directory_height, entry_kind};
-use fd_site::{Failed, Site};
+use crate::vmcore::Vmcore;
+use fd_cache::Pages;
+use fd_mini::{AddressFault, MiniHeader, entry_height_of, unit_of};
+use fd_pte::{Kind, entry_kind};
+use fd_site::Site;
 
 /// Physical addresses, one after another: the first, which may be 2^64 or more, and how many they are.
 #[derive(Clone, Copy, Debug, PartialEq, Eq)]
@@ -25,19 +24,25 @@ pub(crate) struct Span {
     pub(crate) len: u64,
 }
 
-impl Kvm {
+impl Vmcore {
     // The physical addresses that the kernel addresses from this one on stand for.
-    pub(crate) fn span_at<S: Site>(&self, site: &mut S, va: u64) -> Result<Span, ReadFault>
-        requires { Told (S.seen site.old).told (StandsFor self.now) }
+    pub(crate) fn span_at<S: Site>(
+        &self,
+        pages: &mut Pages,
+        site: &mut S,
+        va: u64,
+    ) -> Result<Span, ReadFault>
+        requires { Told (S.seen site.old).told (StandsWith self.now pages.old) }
         ensures span { Told (S.seen site.old).told (λ c. (f : List ℕ) → file_of c self.now.name ≡ Some f → IsSpan (placed f self.now.sections) va result) }
         ensures some { IfOk result (λ span. 0 < span.len) }
         ensures fault { IsOfAddress result }
+        ensures stands { Told (S.seen site.new).told (StandsWith self.now pages.new) }
         ensures untouched { Untouched (S.seen site.old) (S.seen site.new) }
         ensures cause { IsErrOf result SiteFault → Rose (S.seen site.old).faults (S.seen site.new).faults }
     {
         let header = self.header();
         if is_by_window(header, va) {
-            return self.window_span(site, va);
+            return self.window_span(pages, site, va);
         }
         if is_in_direct_map(header, va) {
             return Ok(direct_span(header, va));
@@ -46,20 +51,26 @@ impl Kvm {
     }
 
     // The same for an address that is looked for in the kernel window.
-    fn window_span<S: Site>(&self, site: &mut S, va: u64) -> Result<Span, ReadFault>
-        requires stands { Told (S.seen site.old).told (StandsFor self.now) }
+    fn window_span<S: Site>(
+        &self,
+        pages: &mut Pages,
+        site: &mut S,
+        va: u64,
+    ) -> Result<Span, ReadFault>
+        requires stands { Told (S.seen site.old).told (StandsWith self.now pages.old) }
         requires window { IsTrue (is_by_window self.now.sections.header va) }
         ensures span { Told (S.seen site.old).told (λ c. (f : List ℕ) → file_of c self.now.name ≡ Some f → IsSpan (placed f self.now.sections) va result) }
         ensures some { IfOk result (λ span. 0 < span.len) }
         ensures fault { IsOfAddress result }
+        ensures stands { Told (S.seen site.new).told (StandsWith self.now pages.new) }
         ensures untouched { Untouched (S.seen site.old) (S.seen site.new) }
         ensures cause { IsErrOf result SiteFault → Rose (S.seen site.old).faults (S.seen site.new).faults }
     {
         let header = self.header();
         let place = self.directory() + 8 * entry_index(header, va);
-        let bits = self.read_entry(site, place)?;
-        let kind = entry_kind(header.arch, bits, directory_height(header.arch));
-        let span = self.entry_span(site, va, kind)?;
+        let bits = self.read_entry(pages, site, place)?;
+        let kind = entry_kind(header.arch, bits, entry_height_of(header));
+        let span = self.entry_span(pages, site, va, kind)?;
         Ok(Span {
             pa: span.pa,
             len: span.len.min(window_limit(header, va)),
@@ -67,29 +78,43 @@ impl Kvm {
     }
 
     // The same by the directory's entry of this kind, as far as it is the entry of the addresses.
-    fn entry_span<S: Site>(&self, site: &mut S, va: u64, kind: Kind) -> Result<Span, ReadFault>
-        requires stands { Told (S.seen site.old).told (StandsFor self.now) }
+    fn entry_span<S: Site>(
+        &self,
+        pages: &mut Pages,
+        site: &mut S,
+        va: u64,
+        kind: Kind,
+    ) -> Result<Span, ReadFault>
+        requires stands { Told (S.seen site.old).told (StandsWith self.now pages.old) }
         requires above { self.now.sections.header.kernbase ≤ va }
         ensures span { Told (S.seen site.old).told (λ c. (f : List ℕ) → file_of c self.now.name ≡ Some f → IsSpan (λ a. by_entry f self.now.sections a kind) va result) }
         ensures some { IfOk result (λ span. 0 < span.len) }
         ensures fault { IsOfAddress result }
+        ensures stands { Told (S.seen site.new).told (StandsWith self.now pages.new) }
         ensures untouched { Untouched (S.seen site.old) (S.seen site.new) }
         ensures cause { IsErrOf result SiteFault → Rose (S.seen site.old).faults (S.seen site.new).faults }
     {
         match kind {
             Kind::Absent => Err(ReadFault::Address(AddressFault::NotMapped(va))),
             Kind::Leaf(address) => Ok(leaf_span(self.header(), va, address)),
-            Kind::Table(table) => self.table_span(site, va, table),
+            Kind::Table(table) => self.table_span(pages, site, va, table),
         }
     }
 
     // The same by the table at this physical address.
-    fn table_span<S: Site>(&self, site: &mut S, va: u64, table: u64) -> Result<Span, ReadFault>
-        requires stands { Told (S.seen site.old).told (StandsFor self.now) }
+    fn table_span<S: Site>(
+        &self,
+        pages: &mut Pages,
+        site: &mut S,
+        va: u64,
+        table: u64,
+    ) -> Result<Span, ReadFault>
+        requires stands { Told (S.seen site.old).told (StandsWith self.now pages.old) }
         ensures span { Told (S.seen site.old).told (λ c. (f : List ℕ) → file_of c self.now.name ≡ Some f
             → IsSpan (λ a. by_table f self.now.sections.header.arch a (page_offset self.now.sections table)) va result) }
         ensures some { IfOk result (λ span. 0 < span.len) }
         ensures fault { IsOfAddress result }
+        ensures stands { Told (S.seen site.new).told (StandsWith self.now pages.new) }
         ensures untouched { Untouched (S.seen site.old) (S.seen site.new) }
         ensures cause { IsErrOf result SiteFault → Rose (S.seen site.old).faults (S.seen site.new).faults }
     {
@@ -97,23 +122,11 @@ impl Kvm {
             Some(place) => place,
             None => return Err(ReadFault::Address(AddressFault::TableMissing(va))),
         };
-        let bits = self.read_entry(site, place + 8 * (va / 4096 % 512))?;
+        let bits = self.read_entry(pages, site, place + 8 * (va / 4096 % 512))?;
         match entry_kind(self.header().arch, bits, 0) {
             Kind::Leaf(address) => Ok(page_span(va, address)),
             Kind::Absent | Kind::Table(_) => Err(ReadFault::Address(AddressFault::NotMapped(va))),
         }
-    }
-
-    // The entry at a place of the file.
-    fn read_entry<S: Site>(&self, site: &mut S, place: u64) -> Result<u64, Failed>
-        requires inside { Told (S.seen site.old).told (λ c. IsSomeAnd (file_of c self.now.name) (λ f. place + 8 ≤ length f)) }
-        ensures entry { IfOk result (λ bits. Told (S.seen site.old).told (λ c. (f : List ℕ) → file_of c self.now.name ≡ Some f → bits ≡ u64_le_at f place)) }
-        ensures untouched { Untouched (S.seen site.old) (S.seen site.new) }
-        ensures cause { OnErr result (Rose (S.seen site.old).faults (S.seen site.new).faults) }
-    {
-        let mut bytes = [0; 8];
-        site.read_file(self.name(), place, &mut bytes)?;
-        Ok(get_u64_le(&bytes, 0))
     }
 }
 

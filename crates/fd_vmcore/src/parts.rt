@@ -59,7 +59,7 @@ pub(crate) fn read_bitmap<S: Site>(
         places_of(header).bitmap,
         header.bitmapsize,
     )?;
-    Ok(Bitmap::from_bytes(alloc, bytes.as_slice())?)
+    Ok(Bitmap::from_vec(bytes)?)
 }
 
 /// The pages that have a bit: those of the ranges, or all of the bitmap's where there is no section of ranges.

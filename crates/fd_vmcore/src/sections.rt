@@ -1,9 +1,10 @@
 //! An open vmcore.
-ghost use Rattle.std.specs.Prelude.{◌≡◌, ℕ, ◌≤◌, ◌<◌, ◌^◌, IfSome, IsErrOf, IsTrue, List, Ok, Some, length};
+ghost use Rattle.std.specs.Prelude.{◌≡◌, ℕ, ◌+◌, ◌*◌, ◌≤◌, ◌<◌, ◌^◌, IfSome, IsErrOf, IsTrue, List, None, Ok, Some, length};
 ghost use Rattle.fd_site.specs.Contents.{Told, file_of};
 ghost use Rattle.fd_site.specs.Fault.{Rose};
 ghost use Rattle.fd_site.specs.Name.{is_good_name};
 ghost use Rattle.fd_site.specs.Seen.{Untouched};
+ghost use Rattle.fd_bitmap.specs.Pages.{page_of};
 ghost use Rattle.fd_mini.specs.Places.{places_of};
 ghost use Rattle.fd_vmcore.specs.Parts.{HasLength};
 ghost use Rattle.fd_vmcore.specs.Sections.{IsAnswer, IsOpening, by_header, offset_of_bit, page_offset, pages_end};
@@ -11,7 +12,7 @@ ghost use Rattle.fd_vmcore.specs.declared.open.OpenFault.TheVariants.{SiteFault}
 
 use crate::open::OpenFault;
 use crate::parts::{read_avail, read_bitmap};
-use fd_bitmap::{Avail, Bitmap};
+use fd_bitmap::{Avail, Bitmap, RankIndex, Steps};
 use fd_mini::{MiniHeader, Places, places_of, read_header};
 use fd_site::Site;
 use std::alloc::Global;
@@ -24,6 +25,7 @@ pub struct Core {
     header: MiniHeader,
     avail: Avail,
     map: Bitmap,
+    index: RankIndex,
 }
 
 impl Model for Core {
@@ -34,7 +36,7 @@ impl Model for Core {
 
     ghost view = { λ core. record { header = core.header; pages = core.avail; bits = core.map } };
 
-    ghost invariant = { λ core. IsKept core.header core.avail core.map };
+    ghost invariant = { λ core. IsKept core.header core.avail core.map core.index };
 }
 
 impl Core {
@@ -67,35 +69,48 @@ impl Core {
         places_of(&self.header)
     }
 
-    /// Where the page of a physical address stands in the file, or None where it isn't dumped.
-    pub fn find(&self, pa: u64) -> Option<u64>
-        ensures place { result ≡ page_offset self.now pa }
-        ensures limit { IfSome result (λ place. place < 2 ^ 62) }
+    /// The bits, eight for each byte of the bitmap. A bit that is set says that its page is dumped, where it has one.
+    pub fn map(&self) -> &Bitmap
+        ensures bits { result.now ≡ self.now.bits }
+        ensures len { length result.now ≡ 8 * self.now.header.bitmapsize }
     {
-        self.place_of(self.avail.bit_of(pa)?)
+        &self.map
     }
 
-    /// The same for an address that may have more than 64 bits, as one in a direct map may. No page has such an address.
-    pub fn find_wide(&self, pa: u128) -> Option<u64>
+    /// The address of the page that the ranges give to a bit, whether it is set or not, or None where they give it to none.
+    pub fn bit_page(&self, bit: u64) -> Option<u64>
+        ensures { result ≡ page_of self.now.pages bit }
+    {
+        self.avail.page_of(bit)
+    }
+
+    /// Where the page of a physical address stands in the file, or None where it isn't dumped. Looks at no more than eight
+    /// words of the bits below it.
+    pub fn find<L>(&self, pa: u64, steps: &mut Steps<L>) -> Option<u64>
         ensures place { result ≡ page_offset self.now pa }
         ensures limit { IfSome result (λ place. place < 2 ^ 62) }
+        ensures steps { steps.new ≤ steps.old + 8 }
     {
-        let avail = &self.avail;
-        match u64::try_from(pa) {
-            Ok(pa) => self.place_of(avail.bit_of(pa)?),
-            Err(_) => None,
-        }
+        self.place_of(self.avail.bit_of(pa)?, steps)
+    }
+
+    /// A law: no page has an address of 2^64 or more, which an address in a direct map may stand for.
+    pub fn no_page_is_past_the_top(&self)
+        ensures { (pa : ℕ) → 2 ^ 64 ≤ pa → page_offset self.now pa ≡ None }
+    {
+        let _avail = &self.avail;
     }
 
     // Where the page of this bit stands in the file, if the bit is set.
-    fn place_of(&self, bit: u64) -> Option<u64>
+    fn place_of<L>(&self, bit: u64, steps: &mut Steps<L>) -> Option<u64>
         ensures place { result ≡ offset_of_bit self.now bit }
         ensures limit { IfSome result (λ place. place < 2 ^ 62) }
+        ensures steps { steps.new ≤ steps.old + 8 }
     {
         if !self.map.has(bit) {
             return None;
         }
-        Some(self.places().pages + 4096 * self.map.count_below(bit))
+        Some(self.places().pages + 4096 * self.index.rank(&self.map, bit, steps))
     }
 
     // Where the dumped pages end.
@@ -146,7 +161,13 @@ fn open_sections<S: Site>(
     }
     let avail = read_avail(alloc, site, name, &header)?;
     let map = read_bitmap(alloc, site, name, &header)?;
-    let core = Core { header, avail, map };
+    let index = RankIndex::new(alloc, &map)?;
+    let core = Core {
+        header,
+        avail,
+        map,
+        index,
+    };
     let need = core.pages_end();
     if len < need {
         return Err(OpenFault::Short(need, len));

@@ -1,55 +1,89 @@
 //! Opening files in memory: each refusal with its numbers, and where pages stand.
-ghost use Rattle.std.specs.Prelude.{◌≡◌, length, IfOk};
+ghost use Rattle.std.specs.Prelude.{◌≤◌, IsTrue};
+ghost use Rattle.fd_mini.specs.Layout.{is_current};
 
 use crate::{Core, OpenFault};
-use fd_bytes::{Arch, put_u64_le};
+use fd_bitmap::{Counted, Steps};
+use fd_bytes::Arch;
 use fd_fake::MemSite;
-use fd_mini::{MiniFault, MiniHeader, write_header};
+use fd_mini::{MiniFault, MiniField, MiniHeader, write_header};
 use fd_site::{Site, good_name};
 use std::alloc::{AllocError, Global};
 use std::process::Abort;
 use std::test::Fail;
 
-// The header page of a machine with six pages: where it has ranges, they are at 8192, the bitmap at 12288, the directory
-// at 16384 and the dumped pages at 20480.
-fn header_page(dumpavailsize: u32) -> [u8; 4096] {
-    let header = MiniHeader {
-        arch: Arch::Riscv,
-        version: 2,
-        msgbufsize: 12,
-        bitmapsize: 4096,
-        pmapsize: 4096,
-        kernbase: 0xffffffc000000000,
-        dmapphys: 0x80000000,
-        dmapbase: 0xffffffd000000000,
-        dmapend: 0xffffffd000006000,
-        dumpavailsize,
-        flags: 0,
-    };
-    let mut page = [0; 4096];
-    write_header(&header, &mut page);
-    page
-}
+// A machine with six pages: its ranges are at 8192, the bitmap at 12288, the directory at 16384 and the dumped pages at
+// 20480.
+const RISCV: MiniHeader = MiniHeader {
+    arch: Arch::Riscv,
+    version: 2,
+    msgbufsize: 12,
+    bitmapsize: 4096,
+    pmapsize: 4096,
+    kernbase: 0xffffffc000000000,
+    dmapphys: 0x80000000,
+    dmapbase: 0xffffffd000000000,
+    dmapend: 0xffffffd000006000,
+    dumpavailsize: 4096,
+    flags: 0,
+};
 
-// A file with one range and three set bits, and so three dumped pages.
-fn file(alloc: Global) -> Result<Vec<u8>, AllocError>
-    ensures { IfOk result (λ bytes. length bytes.items ≡ 32768) }
+const ARM64: MiniHeader = MiniHeader {
+    arch: Arch::Arm64,
+    version: 3,
+    flags: 1,
+    ..RISCV
+};
+
+// A machine whose bitmap is at 4096, the directory behind it, and behind that the dumped pages.
+const AMD64: MiniHeader = MiniHeader {
+    arch: Arch::Amd64,
+    version: 3,
+    msgbufsize: 0,
+    kernbase: 0xfffffe0000000000,
+    dmapphys: 0,
+    dmapbase: 0,
+    dmapend: 0,
+    dumpavailsize: 0,
+    ..RISCV
+};
+
+// The range from 0x80000000 to 0x80006000, and the bits 1, 2 and 4.
+const SIX_PAGES: [(usize, u8); 4] = [(8195, 0x80), (8201, 0x60), (8203, 0x80), (12288, 0x16)];
+
+// A file of this header page, and behind it zeros.
+fn page_and_zeros(alloc: Global, header: &MiniHeader, len: usize) -> Result<Vec<u8>, AllocError>
+    requires current { IsTrue (is_current header.now.arch header.now.version) }
+    requires page { 4096 ≤ len }
 {
-    let mut bytes = vec![in alloc; 0u8; 32768]?;
-    bytes[..4096].copy_from_slice(&header_page(4096));
-    put_u64_le(bytes.as_mut_slice(), 8192, 0x80000000);
-    put_u64_le(bytes.as_mut_slice(), 8200, 0x80006000);
-    bytes[12288] = 0x16;
+    let mut page = [0; 4096];
+    write_header(header, &mut page);
+    let mut bytes = vec![in alloc; 0u8; len]?;
+    bytes[..4096].copy_from_slice(&page);
     Ok(bytes)
 }
 
-// The same file with another byte at this place, and no more than its first bytes.
-fn changed(alloc: Global, at: usize, byte: u8, len: usize) -> Result<Vec<u8>, AllocError> {
-    let mut bytes = file(alloc)?;
-    if let Some(place) = bytes.get_mut(at) {
-        *place = byte;
+// Writes each byte at its place.
+fn mark(bytes: &mut [u8], marks: &[(usize, u8)]) {
+    for (at, byte) in marks {
+        if let Some(place) = bytes.get_mut(*at) {
+            *place = *byte;
+        }
     }
-    bytes.truncate(len);
+}
+
+// A file of this header page with these bytes at their places, and zeros.
+fn file(
+    alloc: Global,
+    header: &MiniHeader,
+    marks: &[(usize, u8)],
+    len: usize,
+) -> Result<Vec<u8>, AllocError>
+    requires current { IsTrue (is_current header.now.arch header.now.version) }
+    requires page { 4096 ≤ len }
+{
+    let mut bytes = page_and_zeros(alloc, header, len)?;
+    mark(bytes.as_mut_slice(), marks);
     Ok(bytes)
 }
 
@@ -64,7 +98,6 @@ fn refuses(rt: &impl Abort, alloc: Global, bytes: Vec<u8>, fault: OpenFault) -> 
     let mut site = MemSite::new(alloc, 512, 512, Vec::new(alloc))?;
     site.preset_file("vmcore.0", bytes)?;
     is_refused(rt, alloc, &mut site, fault);
-    assert_eq!(rt; site.starved(), 0);
     Ok(())
 }
 
@@ -76,22 +109,62 @@ fn a_missing_file_is_refused(rt: HostRuntime) -> Result<(), Fail> {
     Ok(())
 }
 
+// Opens the riscv machine's file with another byte at this place, and no more than its first bytes.
+fn refuses_changed(
+    rt: &impl Abort,
+    alloc: Global,
+    at: usize,
+    byte: u8,
+    len: usize,
+    fault: OpenFault,
+) -> Result<(), Fail> {
+    let mut bytes = file(alloc, &RISCV, &SIX_PAGES, 32768)?;
+    mark(bytes.as_mut_slice(), &[(at, byte)]);
+    bytes.truncate(len);
+    refuses(rt, alloc, bytes, fault)
+}
+
 #[test]
 fn a_file_is_refused_for_its_first_fault(rt: HostRuntime) -> Result<(), Fail> {
     let alloc = rt.alloc();
-    // another byte at a place, and so many bytes
     for (at, byte, len, fault) in [
-        (0, b'm', 100, OpenFault::Short(4096, 100)),
-        (0, b'M', 32768, OpenFault::Mini(MiniFault::BadMagic)),
-        (24, 9, 32768, OpenFault::Mini(MiniFault::UnknownVersion(9))),
+        (0, b'm', 4095, OpenFault::Short(4096, 4095)),
+        (0, b'M', 4096, OpenFault::Mini(MiniFault::BadMagic)),
+        (24, 0, 4096, OpenFault::Mini(MiniFault::UnknownVersion(0))),
+        (24, 3, 4096, OpenFault::Mini(MiniFault::UnknownVersion(3))),
         (24, 2, 20479, OpenFault::Short(20480, 20479)),
-        (8201, 0, 32768, OpenFault::BadAvail(0)),
+        (8201, 0, 32767, OpenFault::BadAvail(0)),
         (24, 2, 32767, OpenFault::Short(32768, 32767)),
     ] {
-        refuses(&rt, alloc, changed(alloc, at, byte, len)?, fault)?;
+        refuses_changed(&rt, alloc, at, byte, len, fault)?;
     }
     Ok(())
 }
+
+#[test]
+fn a_section_over_its_limit_is_refused(rt: HostRuntime) -> Result<(), Fail> {
+    let alloc = rt.alloc();
+    for (at, byte, field, size) in [
+        (74, 0x10, MiniField::DumpAvail, 1052672),
+        (35, 4, MiniField::Bitmap, 67112960),
+    ] {
+        let fault = OpenFault::Mini(MiniFault::TooLarge(field, size));
+        refuses_changed(&rt, alloc, at, byte, 32768, fault)?;
+    }
+    Ok(())
+}
+
+#[test]
+fn a_large_granule_is_refused(rt: HostRuntime) -> Result<(), Fail> {
+    let alloc = rt.alloc();
+    let fault = OpenFault::Mini(MiniFault::BigGranule(1));
+    refuses(&rt, alloc, file(alloc, &ARM64, &[], 4096)?, fault)
+}
+
+// Looks at words of bits.
+struct Looks;
+
+impl Counted for Looks {}
 
 // Opens the site's file.
 fn opens<S: Site>(rt: &impl Abort, alloc: Global, site: &mut S) -> Core {
@@ -106,54 +179,164 @@ fn open(rt: &impl Abort, alloc: Global, bytes: Vec<u8>) -> Result<Core, Fail> {
     Ok(opens(rt, alloc, &mut site))
 }
 
-fn finds_the_pages_of_the_range(rt: &impl Abort, core: &Core) {
-    assert_eq!(rt; core.header().msgbufsize, 12);
-    assert_eq!(rt; core.places().pages, 20480);
-    for (pa, place) in [
-        (0x80000000, None),
-        (0x80001fff, Some(20480)),
-        (0x80003000, None),
-        (0x80004000, Some(28672)),
-        (0x1000, None),
-    ] {
-        assert_eq!(rt; core.find(pa), place, "the page of {pa}");
+// The pages of these addresses stand at these places.
+fn finds(rt: &impl Abort, core: &Core, places: &[(u64, Option<u64>)]) {
+    let mut steps = Steps::<Looks>::new();
+    for (pa, place) in places {
+        assert_eq!(rt; core.find(*pa, &mut steps), *place, "the page of {pa}");
     }
-    assert_eq!(rt; core.find_wide(0x80002000), Some(24576));
-    assert_eq!(rt; core.find_wide(0x1_0000_0000_8000_2000), None);
+}
+
+// In a file of these bytes.
+fn finds_in(
+    rt: &impl Abort,
+    alloc: Global,
+    bytes: Vec<u8>,
+    places: &[(u64, Option<u64>)],
+) -> Result<(), Fail> {
+    let core = open(rt, alloc, bytes)?;
+    finds(rt, &core, places);
+    Ok(())
+}
+
+fn has_the_riscv_machines_bits(rt: &impl Abort, core: &Core) {
+    assert_eq!(rt;
+        (core.header().msgbufsize, core.places().pages),
+        (12, 20480)
+    );
+    assert_eq!(rt; (core.map().count(), core.map().byte(0)), (3, 0x16));
+    assert_eq!(rt;
+        (core.bit_page(0), core.bit_page(6)),
+        (Some(0x80000000), None)
+    );
 }
 
 #[test]
 fn pages_stand_in_the_order_of_their_bits(rt: HostRuntime) -> Result<(), Fail> {
     let alloc = rt.alloc();
-    let core = open(&rt, alloc, file(alloc)?)?;
-    finds_the_pages_of_the_range(&rt, &core);
+    let core = open(&rt, alloc, file(alloc, &RISCV, &SIX_PAGES, 32768)?)?;
+    has_the_riscv_machines_bits(&rt, &core);
+    let places = [
+        (0x80000000, None),
+        (0x80001fff, Some(20480)),
+        (0x80002000, Some(24576)),
+        (0x80003000, None),
+        (0x80004000, Some(28672)),
+        (0x1000, None),
+    ];
+    finds(&rt, &core, &places);
     Ok(())
 }
 
-// A file without ranges, whose bitmap is where they would be.
-fn file_without_ranges(alloc: Global) -> Result<Vec<u8>, AllocError> {
-    let mut bytes = vec![in alloc; 0u8; 28672]?;
-    bytes[..4096].copy_from_slice(&header_page(0));
-    bytes[8192] = 0x16;
-    Ok(bytes)
-}
-
-fn finds_all_pages(rt: &impl Abort, core: &Core) {
-    for (pa, place) in [
-        (0, None),
-        (0x1000, Some(16384)),
-        (0x3000, None),
-        (0x4fff, Some(24576)),
-        (0x80001000, None),
-    ] {
-        assert_eq!(rt; core.find(pa), place, "the page of {pa}");
-    }
-}
-
+// The section of ranges is then read as the bitmap.
 #[test]
 fn without_ranges_each_page_has_a_bit(rt: HostRuntime) -> Result<(), Fail> {
     let alloc = rt.alloc();
-    let core = open(&rt, alloc, file_without_ranges(alloc)?)?;
-    finds_all_pages(&rt, &core);
+    let header = MiniHeader {
+        dumpavailsize: 0,
+        ..RISCV
+    };
+    let places = [
+        (0x1f000, Some(16384)),
+        (0x4d000, Some(20480)),
+        (0x4e000, Some(24576)),
+        (0x5f000, Some(28672)),
+        (0x80001000, None),
+    ];
+    finds_in(
+        &rt,
+        alloc,
+        file(alloc, &header, &SIX_PAGES, 32768)?,
+        &places,
+    )
+}
+
+// The first version of riscv has no field for ranges, so the bitmap follows the message buffer.
+#[test]
+fn the_first_version_has_no_ranges(rt: HostRuntime) -> Result<(), Fail> {
+    let alloc = rt.alloc();
+    let header = MiniHeader {
+        bitmapsize: 69632,
+        ..RISCV
+    };
+    let marks = [(24, 1), (8192 + 65536, 0x16)];
+    let places = [
+        (0x80001000, Some(81920)),
+        (0x80002000, Some(86016)),
+        (0x80003000, None),
+        (0x80004000, Some(90112)),
+    ];
+    finds_in(&rt, alloc, file(alloc, &header, &marks, 94208)?, &places)
+}
+
+#[test]
+fn a_file_of_the_first_version_may_be_short(rt: HostRuntime) -> Result<(), Fail> {
+    let alloc = rt.alloc();
+    let header = MiniHeader {
+        bitmapsize: 69632,
+        ..RISCV
+    };
+    let marks = [(24, 1), (8192 + 65536, 0x16)];
+    let bytes = file(alloc, &header, &marks, 94207)?;
+    refuses(&rt, alloc, bytes, OpenFault::Short(94208, 94207))
+}
+
+#[test]
+fn amd64_has_ranges_from_its_third_version_on(rt: HostRuntime) -> Result<(), Fail> {
+    let alloc = rt.alloc();
+    for version in [1, 2] {
+        let marks = [(24, version), (65, 16), (4096, 2)];
+        let places = [(0x1000, Some(12288)), (0x2000, None)];
+        finds_in(&rt, alloc, file(alloc, &AMD64, &marks, 16384)?, &places)?;
+    }
+    Ok(())
+}
+
+// The second version of arm64 has no flags, and its field of ranges counts.
+#[test]
+fn arm64_has_ranges_from_its_second_version_on(rt: HostRuntime) -> Result<(), Fail> {
+    let alloc = rt.alloc();
+    let mut bytes = file(alloc, &ARM64, &SIX_PAGES, 32768)?;
+    mark(bytes.as_mut_slice(), &[(24, 2)]);
+    finds_in(
+        &rt,
+        alloc,
+        bytes,
+        &[(0x80001000, Some(20480)), (0x1000, None)],
+    )
+}
+
+// The last bit of the largest bitmap alone is set.
+#[test]
+fn the_largest_bitmap_is_taken(rt: HostRuntime) -> Result<(), Fail> {
+    let alloc = rt.alloc();
+    let header = MiniHeader {
+        bitmapsize: 1 << 26,
+        pmapsize: 0,
+        ..AMD64
+    };
+    let marks = [((1 << 26) + 4095, 0x80)];
+    let places = [(4096 * ((1 << 29) - 1), Some((1 << 26) + 4096)), (0, None)];
+    finds_in(
+        &rt,
+        alloc,
+        file(alloc, &header, &marks, (1 << 26) + 8192)?,
+        &places,
+    )
+}
+
+// Opens the riscv machine's file where the call of this number fails.
+fn opens_where_a_call_fails(rt: &impl Abort, alloc: Global, number: u64) -> Result<(), Fail> {
+    let mut site = MemSite::new(alloc, 512, 512, vec![in alloc; number]?)?;
+    site.preset_file("vmcore.0", file(alloc, &RISCV, &SIX_PAGES, 32768)?)?;
+    is_refused(rt, alloc, &mut site, OpenFault::SiteFault);
+    Ok(())
+}
+
+#[test]
+fn each_failing_call_is_a_fault_of_the_site(rt: HostRuntime) -> Result<(), Fail> {
+    for number in 1..=4 {
+        opens_where_a_call_fails(&rt, rt.alloc(), number)?;
+    }
     Ok(())
 }

@@ -32,14 +32,15 @@ use Rattle.fd_kvm.specs.Place.{by_table_entry, table_entry, by_table, by_entry, 
 use Rattle.fd_dump.specs.Dumped.{tables_in, dumps_last_tables, is_dumped}
 use Rattle.fd_dump.specs.Minidump.{form_of, entry_count, directory_of, mini_header_of, minidump_of}
 use Rattle.fd_dump.specs.Translation.{by_leaf, is_table_missing, by_tables}
+use Rattle.fd_dump.proofs.Stands.{Stands, Stands-inner}
 use Rattle.fd_way.proofs.ImageWords.{word_short, word_of-page}
 use Rattle.fd_way.proofs.Limits.{windows_of}
 use Rattle.fd_way.proofs.Located.{IsDumpedAt, IsNotDumped, located}
 use Rattle.fd_way.proofs.Opening.{sections_of}
-use Rattle.fd_way.proofs.SectionPlaces.{Stands-directory}
-use Rattle.fd_way.proofs.Stands.{Stands, Stands-inner, Stands-piece, u64_le_at-Stands, u64_le_at-within}
+use Rattle.fd_dump.proofs.SectionPlaces.{Stands-directory}
 use Rattle.fd_way.proofs.TableEntries.{IsLeafOf, leaf_at-lowest, leaf_at-no_table, none_below, leaf_below-same, leaf_found, entry_short}
-use Rattle.fd_way.proofs.Units.{some_levels, most_levels, placed_kind, zero_absent, IsUnitLeaf, expanded, unit_start, IsInUnit, in_unit, place_in_leaf}
+use Rattle.fd_way.proofs.Units.{some_levels, most_levels, entry_height, placed_kind, zero_absent, IsUnitLeaf, expanded, unit_start, IsInUnit, in_unit, place_in_leaf}
+use Rattle.fd_way.proofs.Pieces.{Stands-piece, u64_le_at-Stands, u64_le_at-within}
 
 -- a table that isn't dumped is missing where tables ought to be dumped
 missing_nowhere : (m : MachineImage) (last : Option ℕ) → dumps_last_tables m.arch ≡ false → is_table_missing m last ≡ false
@@ -85,6 +86,10 @@ module _ (m : MachineImage) (valid : IsValid m) where
 
   abbrev start : ℕ → ℕ
   start va = unit_start m.arch m.windows.kernbase va
+
+  -- a leaf of the directory's height
+  leaf_is : (va address : ℕ) → by_entry file sections va (Leaf address) ≡ Ok (address + (va - m.windows.kernbase) % unit)
+  leaf_is va address = ap (λ h. Ok (address + (va - m.windows.kernbase) % bytes_under h)) (entry_height m)
 
   short : (h va bits : ℕ) → h < levels_of m → entry_at tables h va ≡ Some bits → bits < 2 ^ 64
   short h va bits within some = entry_short tables (word_short m valid) h va bits within some
@@ -157,7 +162,8 @@ module _ (m : MachineImage) (valid : IsValid m) where
         let kind_is : kind_at tables height va ≡ Leaf address = ap (λ entry. kind_of_entry (kind_of m.arch) height entry) some ∙ is in
         let leaf : leaf_at tables va ≡ Some (record { height = height; bits = bits; address = address }) =
         leaf_at-no_table tables height va bits (some_levels m) some (leaf_names_none address (kind_of m.arch bits height) is) ∙ ap (leaf_of_kind height bits) is in
-        ap (λ n. Ok (address + n)) place.inside
+        leaf_is va address
+        ∙ ap (λ n. Ok (address + n)) place.inside
         ∙ sym (by_tables_is va (Some (record { height = height; bits = bits; address = address })) (none_missing va (leaf_names_none address (kind_at tables height va) kind_is)) leaf)
     by_kind bits (Table table) some is placed = by_last_table va bits table some is placed
     by_kind bits Absent some is placed =
@@ -199,6 +205,7 @@ module _ (m : MachineImage) (valid : IsValid m) where
           record {
             fits = leaf_of_unit.fits;
             same = ap (by_entry file sections va) leaf_of_unit.leaf
+                ∙ leaf_is va (leaf.address + index * unit)
                 ∙ ap Ok same_place
                 ∙ sym (by_tables_is va (Some leaf) (none_missing va names_none) (same_leaf ∙ is));
           }
@@ -239,11 +246,14 @@ module _ (m : MachineImage) (valid : IsValid m) where
         let piece : Stands (to_le_bytes w64 (entry index)) (8 * index) (directory_of m) =
         subst (λ number. Stands (to_le_bytes w64 (entry number)) (8 * index) (directory_of m)) at
         (Stands-piece (λ (number : ℕ). to_le_bytes w64 (entry number)) 8 (range_with_len 0 (entry_count m)) index 0 (λ number. refl) (omega (arith, length-range_with_len 0 (entry_count m)))) in
-        u64_le_at-Stands file ((places_of header).directory + 8 * index) (entry index)
+        ap (λ h. u64_le_at file ((places_of header).directory + 8 * ((va - m.windows.kernbase) / bytes_under h))) (entry_height m)
+        ∙ u64_le_at-Stands file ((places_of header).directory + 8 * index) (entry index)
         (Stands-inner (to_le_bytes w64 (entry index)) (directory_of m) file (8 * index) (places_of header).directory
-        ((places_of header).directory + 8 * index) refl piece (Stands-directory m (windows_of m valid)))
+        ((places_of header).directory + 8 * index) refl piece (Stands-directory m valid))
         agrees.fits
 
     pub by_directory_is : index < entry_count m → by_directory file sections va ≡ by_tables m va
     by_directory_is within =
-        ap (λ entry. by_entry file sections va (kind_of m.arch entry height)) (entry_read within) ∙ agrees.same
+        ap (λ h. by_entry file sections va (kind_of m.arch (kvm.directory_entry file header va) h)) (entry_height m)
+        ∙ ap (λ entry. by_entry file sections va (kind_of m.arch entry height)) (entry_read within)
+        ∙ agrees.same

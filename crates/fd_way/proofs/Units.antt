@@ -1,5 +1,5 @@
 -- The units of the page directory: what is the same for each architecture.
-use Rattle.std.proofs.Common.{◌≡◌, ℕ, ◌+◌, ◌-◌, ◌*◌, ◌/◌, ◌%◌, ◌<◌, ◌≤◌, ◌^◌, ◌&&◌, nat_le, nat_lt, refl, sym, ◌∙◌, ap, arith, lit<, lit≤}
+use Rattle.std.proofs.Common.{◌≡◌, ℕ, ◌+◌, ◌-◌, ◌*◌, ◌/◌, ◌%◌, ◌<◌, ◌≤◌, ◌^◌, Bool, true, false, if◌then◌else◌, ◌&&◌, nat_le, nat_lt, refl, sym, ◌∙◌, ap, arith, lit<, lit≤}
 use Rattle.std.proofs.lemmas.Bool.Decides.{nat_tests}
 use Rattle.std.proofs.lemmas.Nat.{mod-pow-add, field_of}
 use Rattle.fd_bytes.specs.Profile.{profile_of}
@@ -13,25 +13,40 @@ use Rattle.fd_pte.specs.Arm64Laws.{arm64_placed, arm64_expanded}
 use Rattle.fd_pte.specs.Entry.{bytes_under, units_under, IsPlaced}
 use Rattle.fd_pte.specs.RiscvLaws.{riscv_placed, riscv_expanded}
 use Rattle.fd_pte.specs.declared.entry.Kind.TheVariants.{Absent, Leaf}
+use Rattle.fd_mini.specs.Layout.{entry_height_of}
+use Rattle.fd_dump.specs.Minidump.{mini_header_of}
 use Rattle.fd_way.proofs.Limits.{AreWindows}
 
 -- the page tables have at most 4 levels, and some above the directory's height
-levels_between : (arch : Arch) → (directory_height_of arch < (profile_of arch).levels) × ((profile_of arch).levels ≤ 4)
-levels_between Amd64 = (lit< tt, lit≤ tt)
-levels_between Arm64 = (lit< tt, lit≤ tt)
-levels_between Riscv = (lit< tt, lit≤ tt)
+levels_between : (arch : Arch) (sv48 : Bool)
+    → (directory_height_of arch < (if sv48 then 4 else (profile_of arch).levels)) × ((if sv48 then 4 else (profile_of arch).levels) ≤ 4)
+levels_between Amd64 true = (lit< tt, lit≤ tt)
+levels_between Amd64 false = (lit< tt, lit≤ tt)
+levels_between Arm64 true = (lit< tt, lit≤ tt)
+levels_between Arm64 false = (lit< tt, lit≤ tt)
+levels_between Riscv true = (lit< tt, lit≤ tt)
+levels_between Riscv false = (lit< tt, lit≤ tt)
 
 pub some_levels : (m : MachineImage) → directory_height_of m.arch < levels_of m
-some_levels m = (levels_between m.arch).0
+some_levels m = (levels_between m.arch m.sv48).0
 
 pub most_levels : (m : MachineImage) → levels_of m ≤ 4
-most_levels m = (levels_between m.arch).1
+most_levels m = (levels_between m.arch m.sv48).1
 
 -- an entry's kind is one that its height has
 pub placed_kind : (arch : Arch) (bits height : ℕ) → bits < 2 ^ 64 → height ≤ 3 → IsPlaced height (kind_of arch bits height)
 placed_kind Amd64 bits height fits low = amd64_placed bits height fits low
 placed_kind Arm64 bits height fits low = arm64_placed bits height fits low
 placed_kind Riscv bits height fits low = riscv_placed bits height fits low
+
+-- the directory of an image's minidump has entries of the architecture's height
+current_height : (arch : Arch) → (if nat_le 2 (profile_of arch).minidump_version then (profile_of arch).directory_height else 0) ≡ directory_height_of arch
+current_height Amd64 = refl
+current_height Arm64 = refl
+current_height Riscv = refl
+
+pub entry_height : (m : MachineImage) → entry_height_of (mini_header_of m) ≡ directory_height_of m.arch
+entry_height m = current_height m.arch
 
 -- the entry 0 is absent
 pub zero_absent : (arch : Arch) → kind_of arch 0 (directory_height_of arch) ≡ Absent

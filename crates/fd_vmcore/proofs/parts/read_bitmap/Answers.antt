@@ -5,8 +5,7 @@ use Rattle.fd_vmcore.proofs.parts.read_bitmap.Goals as goal
 
 pub returns-clause-len : goal.returns-clause-len
 returns-clause-len g c =
-    let bits = length-bits_of c.as_slice.result.now in
-    let made = ap (λ (l : List Bool). length l) c.in_ok-from_bytes.ensures in
-    let given = ap (λ (l : List ℕ). length l) c.as_slice.ensures.value in
+    let bits = length-bits_of c.in_ok-bytes.bytes.items in
+    let made = ap (λ (l : List Bool). length l) c.in_ok-from_vec.ensures in
     let len = c.in_ok-bytes.ensures.len in
     omega arith
