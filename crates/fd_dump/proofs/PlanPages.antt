@@ -1,6 +1,5 @@
 -- The pages of a plan's minidump, section by section.
 use Rattle.std.proofs.Common.{◌≡◌, ◌∙◌, ℕ, ◌+◌, ◌-◌, ◌*◌, ◌/◌, ◌%◌, ◌^◌, ◌<◌, ◌≤◌, List, length, slice_range, ap, sym, arith}
-use Rattle.std.specs.Int.{div_ceil}
 use Rattle.fd_bitmap.specs.Bits.{set_count}
 use Rattle.fd_image.specs.Image.{MachineImage, IsValid}
 use Rattle.fd_mini.specs.Page as mini
