@@ -24,15 +24,15 @@ fn says_the_same(text: &[u8]) -> bool {
     match read_info(text) {
         Some(info) => {
             let header = &info.header;
-            header.architecture.bytes() == b"riscv64"
+            header.architecture.bytes() == b"riscv64".as_slice()
                 && header.architectureversion == 1
                 && (header.dumplength, header.dumpextent) == (32768, 32768)
                 && (header.dumptime, header.dumpkeysize) == (1_700_000_000, 0)
                 && (header.blocksize, header.compression) == (512, 0)
-                && header.hostname.bytes() == b"rv"
-                && header.versionstring.bytes() == b"FreeBSD 14\n"
-                && header.panicstring.bytes() == b"\\test\xff"
-                && info.device.bytes() == b"dumpdev"
+                && header.hostname.bytes() == b"rv".as_slice()
+                && header.versionstring.bytes() == b"FreeBSD 14\n".as_slice()
+                && header.panicstring.bytes() == b"\\test\xff".as_slice()
+                && info.device.bytes() == b"dumpdev".as_slice()
                 && (info.parity, info.number) == (0x0d4f_e538, 7)
         }
         None => false,
