@@ -11,7 +11,7 @@ use Rattle.fd_imgfile.specs.Front.{fields_of}
 use Rattle.fd_imgfile.specs.Spelling.{magic, u32, u64, number_of, windows_of}
 use Rattle.fd_image.specs.declared.parts.Windows.{Windows}
 use Rattle.fd_imgfile.specs.declared.front.Front.{Front}
-use Rattle.fd_imgfile.proofs.Slices.{slice-join, slice-all, byte_of_slice}
+use Rattle.fd_image.proofs.Slices.{slice-join, slice-all, byte_of_slice}
 
 -- four bytes that hold a number spell it
 pub u32_is : (f : List ℕ) (at n : ℕ) → at + 4 ≤ length f → ((i : ℕ) → get_or f i 0 < 2 ^ 8) → u32_le_at f at ≡ n → slice_range f at (at + 4) ≡ u32 n
@@ -38,7 +38,7 @@ pub record AreKept (f : List ℕ) : Type 0 where
   pub magic : slice_range f 0 16 ≡ magic
   pub version : u32_le_at f 16 ≡ 1
   pub arch_some : 0 < u32_le_at f 20
-  pub arch_last : u32_le_at f 20 ≤ 3
+  pub arch_last : u32_le_at f 20 ≤ 4
   pub segs : u32_le_at f 24 ≤ 64
   pub avail : u32_le_at f 28 ≤ 1024
   pub wanted : u32_le_at f 32 ≤ 262144
@@ -64,7 +64,7 @@ fields_kept f none =
       magic = (bytes_eq-Decides (take 16 f) magic).0 k.0;
       version = is_same (u32_le_at f 16) 1 k.1.0;
       arch_some = is_below 0 (u32_le_at f 20) k.1.1.0;
-      arch_last = within_limit (u32_le_at f 20) 3 k.1.1.1.0;
+      arch_last = within_limit (u32_le_at f 20) 4 k.1.1.1.0;
       segs = within_limit (u32_le_at f 24) 64 k.1.1.1.1.0;
       avail = within_limit (u32_le_at f 28) 1024 k.1.1.1.1.1.0;
       wanted = within_limit (u32_le_at f 32) 262144 k.1.1.1.1.1.1.0;
@@ -76,7 +76,7 @@ fields_kept f none =
     }
 
 -- the fields are all of the bytes
-pub fields_spelled : (f : List ℕ) (h : Front) → length f ≡ 112 → slice_range f 0 16 ≡ magic → slice_range f 16 20 ≡ u32 1 → slice_range f 20 24 ≡ u32 (number_of h.arch)
+pub fields_spelled : (f : List ℕ) (h : Front) → length f ≡ 112 → slice_range f 0 16 ≡ magic → slice_range f 16 20 ≡ u32 1 → slice_range f 20 24 ≡ u32 (number_of h.arch h.sv48)
     → slice_range f 24 28 ≡ u32 h.segs → slice_range f 28 32 ≡ u32 h.avail → slice_range f 32 36 ≡ u32 h.wanted → slice_range f 36 40 ≡ u32 h.host → slice_range f 40 44 ≡ u32 h.version
     → slice_range f 44 48 ≡ u32 h.panic → slice_range f 48 52 ≡ u32 h.msgbuf → slice_range f 52 56 ≡ u32 0 → slice_range f 56 64 ≡ u64 h.root → slice_range f 64 104 ≡ windows_of h.windows
     → slice_range f 104 112 ≡ u64 h.time → f ≡ fields_of h

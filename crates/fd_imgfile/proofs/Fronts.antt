@@ -7,7 +7,7 @@ use Rattle.fd_bytes.specs.Field.{u32_le_at}
 use Rattle.fd_imgfile.specs.Front.{IsCounted, IsFront, fields_of}
 use Rattle.fd_imgfile.specs.Reading.{first_broken, front_checks, fault_place, by_front}
 use Rattle.fd_imgfile.specs.declared.front.Front.{Front}
-use Rattle.fd_imgfile.proofs.Slices.{slice-slice}
+use Rattle.fd_image.proofs.Slices.{slice-slice}
 
 pub u32_le_at-slice : (f : List ℕ) (a b at : ℕ) → a + (at + 4) ≤ b → u32_le_at (slice_range f a b) at ≡ u32_le_at f (a + at)
 unfolding u32_le_at

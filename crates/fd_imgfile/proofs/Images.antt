@@ -9,12 +9,13 @@ use Rattle.fd_imgfile.specs.Reading.{SpellsImage, fault_place}
 use Rattle.fd_imgfile.specs.Spelling.{FitsFields, avail_bytes, front_of, magic, seg_bytes, spelling_of, tables_of, texts_of, u32, u64, windows_of, number_of}
 use Rattle.fd_imgfile.specs.declared.front.Front.{Front}
 use Rattle.fd_imgfile.specs.declared.tables.Tables.{Tables}
-use Rattle.fd_imgfile.proofs.Slices.{slice-all, slice-join}
+use Rattle.fd_image.proofs.Slices.{slice-all, slice-join}
 
 -- the image of the parts
 abbrev pub image_of : Front → Tables → Texts → List Seg → MachineImage
 image_of h t texts segs = record {
   arch = h.arch;
+  sv48 = h.sv48;
   segs = segs;
   avail = t.avail.items;
   wanted = t.wanted.items;
@@ -27,7 +28,7 @@ image_of h t texts segs = record {
 front_spelled : (h : Front) (t : Tables) (texts : Texts) (segs : List Seg) → length segs ≡ h.segs → HasCounts t h → HasLengths texts h → fields_of h ≡ front_of (image_of h t texts segs)
 front_spelled h t texts segs count counts lengths =
     let fields : (s a w ho v p m time : ℕ) → List ℕ =
-    λ s a w ho v p m time. magic ++ u32 1 ++ u32 (number_of h.arch) ++ (u32 s ++ u32 a ++ u32 w) ++ (u32 ho ++ u32 v ++ u32 p ++ u32 m) ++ u32 0 ++ u64 h.root ++ windows_of h.windows
+    λ s a w ho v p m time. magic ++ u32 1 ++ u32 (number_of h.arch h.sv48) ++ (u32 s ++ u32 a ++ u32 w) ++ (u32 ho ++ u32 v ++ u32 p ++ u32 m) ++ u32 0 ++ u64 h.root ++ windows_of h.windows
     ++ u64 time in
     ap (λ n. fields n h.avail h.wanted h.host h.version h.panic h.msgbuf h.time) (sym count)
     ∙ (ap (λ n. fields (length segs) n h.wanted h.host h.version h.panic h.msgbuf h.time) (sym counts.avail)
@@ -72,6 +73,7 @@ image_fits h t texts segs limits count counts lengths sizes = record {
   names = (omega (arith, limits.host, lengths.host), omega (arith, limits.version, lengths.version), omega (arith, limits.panic, lengths.panic));
   msgbuf = omega (arith, limits.msgbuf, lengths.msgbuf);
   sizes = sizes;
+  paging = limits.paging;
 }
 
 pub image_read : (file : Option (List ℕ)) (h : Front) (t : Tables) (texts : Texts) (segs : List Seg) (len : ℕ) → FitsFields (image_of h t texts segs)

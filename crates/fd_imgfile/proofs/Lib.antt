@@ -7,5 +7,5 @@ mod OneReading
 mod OneSpelling
 mod Pairs
 mod Segments
-mod Slices
 mod Unfaulted
+mod Writing

@@ -1,5 +1,5 @@
 -- No two images whose counts and lengths fit their fields have the same file.
-use Rattle.std.proofs.Common.{◌≡◌, ℕ, ◌+◌, ◌<◌, ◌^◌, List, [], ◌∷◌, ◌++◌, length, map, take, drop, slice_range, All, refl, sym, ◌∙◌, ap, arith}
+use Rattle.std.proofs.Common.{◌≡◌, ℕ, ◌+◌, ◌<◌, ◌^◌, Bool, true, false, ◌==◌, if◌then◌else◌, List, [], ◌∷◌, ◌++◌, length, map, take, drop, slice_range, All, refl, sym, ◌∙◌, ap, arith}
 use Rattle.std.specs.Int.{w64, from_le_bytes}
 use Rattle.std.specs.List.{concat, flat_map}
 use Rattle.std.proofs.lemmas.List.{append_assoc, drop_at, length-append, take_at}
@@ -9,7 +9,7 @@ use Rattle.fd_bytes.specs.Field.{u32_le_at, u64_le_at}
 use Rattle.fd_bytes.specs.declared.arch.Arch.{Arch}
 use Rattle.fd_bytes.specs.declared.arch.Arch.TheVariants.{Amd64, Arm64, Riscv}
 use Rattle.fd_bytes.proofs.Fields.{u32_le_at-spelled, u64_le_at-spelled}
-use Rattle.fd_image.specs.Image.{AreBytes, IsTyped, MachineImage}
+use Rattle.fd_image.specs.Image.{AreBytes, IsTyped, MachineImage, is_known_paging}
 use Rattle.fd_image.specs.declared.parts.Seg.{Seg}
 use Rattle.fd_image.specs.declared.parts.Texts.{Texts}
 use Rattle.fd_image.specs.declared.parts.Windows.{Windows}
@@ -94,22 +94,30 @@ same_segs (x ∷ xs) (y ∷ ys) len fits_x fits_y same memory =
     let rest : xs ≡ ys = same_segs xs ys (omega arith) (All-tail FitSeg x xs fits_x) (All-tail FitSeg y ys fits_y) parts.1 bytes.1 in
     rw (first, rest) refl
 
--- architectures with one number are one
-pub fits_number : (arch : Arch) → number_of arch < 2 ^ 32
-fits_number Amd64 = omega arith
-fits_number Arm64 = omega arith
-fits_number Riscv = omega arith
+pub fits_number : (arch : Arch) (sv48 : Bool) → number_of arch sv48 < 2 ^ 32
+fits_number Amd64 sv48 = omega arith
+fits_number Arm64 sv48 = omega arith
+fits_number Riscv true = omega arith
+fits_number Riscv false = omega arith
 
-same_arch : (a b : Arch) → number_of a ≡ number_of b → a ≡ b
-same_arch Amd64 Amd64 same = refl
-same_arch Amd64 Arm64 same = absurd (omega arith)
-same_arch Amd64 Riscv same = absurd (omega arith)
-same_arch Arm64 Amd64 same = absurd (omega arith)
-same_arch Arm64 Arm64 same = refl
-same_arch Arm64 Riscv same = absurd (omega arith)
-same_arch Riscv Amd64 same = absurd (omega arith)
-same_arch Riscv Arm64 same = absurd (omega arith)
-same_arch Riscv Riscv same = refl
+-- a number is read in one way
+arch_numbered : ℕ → Arch
+arch_numbered n = if n == 1 then Amd64 else if n == 2 then Arm64 else Riscv
+
+numbered : (arch : Arch) (sv48 : Bool) → is_known_paging arch sv48 ≡ true → (arch_numbered (number_of arch sv48) ≡ arch) × ((number_of arch sv48 == 4) ≡ sv48)
+unfolding arch_numbered
+numbered Amd64 false known = (refl, refl)
+numbered Amd64 true known = absurd (cc)
+numbered Arm64 false known = (refl, refl)
+numbered Arm64 true known = absurd (cc)
+numbered Riscv false known = (refl, refl)
+numbered Riscv true known = (refl, refl)
+
+same_arch : (a b : Arch) (s t : Bool) → is_known_paging a s ≡ true → is_known_paging b t ≡ true → number_of a s ≡ number_of b t → (a ≡ b) × (s ≡ t)
+same_arch a b s t known_a known_b same = (
+  sym (numbered a s known_a).0 ∙ (ap arch_numbered same ∙ (numbered b t known_b).0),
+  sym (numbered a s known_a).1 ∙ (ap (λ n. n == 4) same ∙ (numbered b t known_b).1),
+)
 
 -- fields at the same place of the same bytes
 at_u32 : (f g : List ℕ) (at m n : ℕ) → f ≡ g → m < 2 ^ 32 → n < 2 ^ 32 → u32 m ≡ slice_range f at (at + 4) → u32 n ≡ slice_range g at (at + 4) → m ≡ n
@@ -138,10 +146,10 @@ one_texts : (a b c d : List ℕ) (t : ℕ) (a' b' c' d' : List ℕ) (t' : ℕ) �
     (let x : Texts = record { host = a; version = b; panic = c; msgbuf = d; time = t } in x) ≡ record { host = a'; version = b'; panic = c'; msgbuf = d'; time = t' }
 one_texts a b c d t a' b' c' d' t' ea eb ec ed et = rw (ea, eb, ec, ed, et) refl
 
-one_image : (a a' : Arch) (s s' : List Seg) (v v' : List (ℕ × ℕ)) (w w' : List ℕ) (r r' : ℕ) (k k' : Windows) (t t' : Texts) → a ≡ a' → s ≡ s' → v ≡ v' → w ≡ w' → r ≡ r' → k ≡ k' → t ≡ t' →
-    (let x : MachineImage = record { arch = a; segs = s; avail = v; wanted = w; root = r; windows = k; texts = t } in x)
-    ≡ record { arch = a'; segs = s'; avail = v'; wanted = w'; root = r'; windows = k'; texts = t' }
-one_image a a' s s' v v' w w' r r' k k' t t' ea es ev ew er ek et = rw (ea, es, ev, ew, er, ek, et) refl
+one_image : (a a' : Arch) (p p' : Bool) (s s' : List Seg) (v v' : List (ℕ × ℕ)) (w w' : List ℕ) (r r' : ℕ) (k k' : Windows) (t t' : Texts) → a ≡ a' → p ≡ p' → s ≡ s' → v ≡ v' → w ≡ w' → r ≡ r' → k ≡ k' → t ≡ t' →
+    (let x : MachineImage = record { arch = a; sv48 = p; segs = s; avail = v; wanted = w; root = r; windows = k; texts = t } in x)
+    ≡ record { arch = a'; sv48 = p'; segs = s'; avail = v'; wanted = w'; root = r'; windows = k'; texts = t' }
+one_image a a' p p' s s' v v' w w' r r' k k' t t' ea ep es ev ew er ek et = rw (ea, ep, es, ev, ew, er, ek, et) refl
 
 fit_segs : (segs : List Seg) → All (λ seg. (seg.start < 2 ^ 64) × AreBytes seg.bytes) segs → All (λ seg. length seg.bytes < 2 ^ 64) segs → All FitSeg segs
 fit_segs segs typed sizes = λ k d below. ((typed k d below).0, sizes k d below)
@@ -152,7 +160,8 @@ one_spelling m n typed_m typed_n fits_m fits_n same =
     let a = same_parts (front_of m) (front_of n) _ _ refl whole in
     let number = λ (at i j : ℕ). at_u32 (front_of m) (front_of n) at i j a.0 in
     let wide = λ (at i j : ℕ). at_u64 (front_of m) (front_of n) at i j a.0 in
-    let arch : m.arch ≡ n.arch = same_arch m.arch n.arch (number 20 (number_of m.arch) (number_of n.arch) (fits_number m.arch) (fits_number n.arch) refl refl) in
+    let arch = same_arch m.arch n.arch m.sv48 n.sv48 fits_m.paging fits_n.paging
+    (number 20 (number_of m.arch m.sv48) (number_of n.arch n.sv48) (fits_number m.arch m.sv48) (fits_number n.arch n.sv48) refl refl) in
     let segs_count : length m.segs ≡ length n.segs = number 24 (length m.segs) (length n.segs) fits_m.counts.0 fits_n.counts.0 refl refl in
     let avail_count : length m.avail ≡ length n.avail = number 28 (length m.avail) (length n.avail) fits_m.counts.1 fits_n.counts.1 refl refl in
     let wanted_count : length m.wanted ≡ length n.wanted = number 32 (length m.wanted) (length n.wanted) fits_m.counts.2 fits_n.counts.2 refl refl in
@@ -175,7 +184,7 @@ one_spelling m n typed_m typed_n fits_m fits_n same =
     let panic = same_parts m.texts.panic n.texts.panic _ _ panic_length version.1 in
     let msgbuf = same_parts m.texts.msgbuf n.texts.msgbuf (memory_of m) (memory_of n) msgbuf_length panic.1 in
     let segs : m.segs ≡ n.segs = same_segs m.segs n.segs segs_count (fit_segs m.segs typed_m.segs fits_m.sizes) (fit_segs n.segs typed_n.segs fits_n.sizes) b.0 msgbuf.1 in
-    one_image m.arch n.arch m.segs n.segs m.avail n.avail m.wanted n.wanted m.root n.root m.windows n.windows m.texts n.texts arch segs
+    one_image m.arch n.arch m.sv48 n.sv48 m.segs n.segs m.avail n.avail m.wanted n.wanted m.root n.root m.windows n.windows m.texts n.texts arch.0 arch.1 segs
     (same_pairs m.avail n.avail avail_count typed_m.avail typed_n.avail c.0) (same_numbers m.wanted n.wanted wanted_count typed_m.wanted typed_n.wanted d.0) root
     (one_windows m.windows.kernbase m.windows.kernspan m.windows.dmapbase m.windows.dmapend m.windows.dmapphys
     n.windows.kernbase n.windows.kernspan n.windows.dmapbase n.windows.dmapend n.windows.dmapphys kernbase kernspan dmapbase dmapend dmapphys)

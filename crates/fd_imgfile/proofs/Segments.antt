@@ -6,7 +6,7 @@ use Rattle.std.proofs.lemmas.List.Folds.{concat-append}
 use Rattle.fd_image.specs.declared.parts.Seg.{Seg}
 use Rattle.fd_imgfile.specs.Spelling.{avail_bytes, pair_bytes, seg_bytes}
 use Rattle.fd_imgfile.proofs.Pairs.{flat_map_push}
-use Rattle.fd_imgfile.proofs.Slices.{slice-join}
+use Rattle.fd_image.proofs.Slices.{slice-join}
 
 -- the bytes of one more segment
 pub memory_more : (f : List ℕ) (segs : List Seg) (seg : Seg) (from next end : ℕ) → from ≤ next → next ≤ end → concat (map (λ seg. seg.bytes) segs) ≡ slice_range f from next

@@ -13,11 +13,12 @@ use Rattle.std.proofs.lemmas.List.Sums.{get_or-le-sum_by, sum-map}
 use Rattle.std.proofs.lemmas.Slice.Eq.{bytes_eq-Decides}
 use Rattle.fd_bytes.specs.Field.{u32_le_at, u64_le_at}
 use Rattle.fd_bytes.proofs.Fields.{u32_le_at-spelled, u64_le_at-spelled}
+use Rattle.fd_bytes.specs.declared.arch.Arch.{Arch}
 use Rattle.fd_bytes.specs.declared.arch.Arch.TheVariants.{Amd64, Arm64, Riscv}
-use Rattle.fd_image.specs.Image.{MachineImage, IsValid, is_within_limits, unless}
+use Rattle.fd_image.specs.Image.{MachineImage, IsValid, is_known_paging, is_within_limits}
 use Rattle.fd_image.specs.declared.parts.Seg.{Seg}
-use Rattle.fd_image.proofs.Valid.{KeepsRules, rules_kept}
-use Rattle.fd_imgfile.specs.Front.{IsCounted, IsFront, IsWithinLimits, lengths_in, second, tables_length, texts_length}
+use Rattle.fd_image.proofs.Valid.{KeepsRules, kept, rules_kept}
+use Rattle.fd_imgfile.specs.Front.{IsCounted, IsFront, IsWithinLimits, front_in, lengths_in, second, tables_length, texts_length}
 use Rattle.fd_imgfile.specs.Reading.{fault_place, first_broken, front_checks}
 use Rattle.fd_imgfile.specs.Spelling.{FitsFields, avail_bytes, front_of, magic, memory_of, number_of, seg_bytes, spelling_of, u64}
 use Rattle.fd_imgfile.specs.declared.front.Front.{Front}
@@ -26,22 +27,6 @@ use Rattle.fd_imgfile.proofs.Lengths.{whole_kept}
 use Rattle.fd_imgfile.proofs.OneSpelling.{fits_number, spelling_in_order}
 use Rattle.fd_imgfile.proofs.Pairs.{u64_le_at-slice}
 
--- the fields of an image
-abbrev header_of : MachineImage → Front
-header_of m = record {
-  arch = m.arch;
-  segs = length m.segs;
-  avail = length m.avail;
-  wanted = length m.wanted;
-  host = length m.texts.host;
-  version = length m.texts.version;
-  panic = length m.texts.panic;
-  msgbuf = length m.texts.msgbuf;
-  root = m.root;
-  windows = m.windows;
-  time = m.texts.time;
-}
-
 both : (a b : Bool) → (a && b) ≡ true → (a ≡ true) × (b ≡ true)
 both true b same = (refl, same)
 both false b same = absurd (cc)
@@ -49,15 +34,11 @@ both false b same = absurd (cc)
 within : (n limit : ℕ) → nat_le n limit ≡ true → n ≤ limit
 within n limit test = grind (arith, nat_tests)
 
-kept_rule : (t : Bool) → unless t ≡ None → t ≡ true
-kept_rule true kept = refl
-kept_rule false kept = absurd (cc)
-
-abbrev memory_size : List Seg → ℕ
+abbrev pub memory_size : List Seg → ℕ
 memory_size segs = sum_by (λ seg. length seg.bytes) segs
 
-limits_kept : (m : MachineImage) → is_within_limits m ≡ true → (memory_size m.segs ≤ 2 ^ 30) × IsWithinLimits (header_of m)
-limits_kept m test =
+limits_kept : (m : MachineImage) → is_within_limits m ≡ true → is_known_paging m.arch m.sv48 ≡ true → (memory_size m.segs ≤ 2 ^ 30) × IsWithinLimits (front_in m)
+limits_kept m test paging =
     let e = both _ _ test in
     let d = both _ _ e.0 in
     let c = both _ _ d.0 in
@@ -74,25 +55,28 @@ limits_kept m test =
         version = within (length m.texts.version) 1023 h.1;
         panic = within (length m.texts.panic) 1023 p.1;
         msgbuf = within (length m.texts.msgbuf) 1048576 t.1;
+        paging = paging;
       },
     )
 
-valid_limits : (m : MachineImage) → IsValid m → (memory_size m.segs ≤ 2 ^ 30) × IsWithinLimits (header_of m)
-valid_limits m valid = let rules : KeepsRules m = rules_kept m valid.unbroken in limits_kept m (kept_rule (is_within_limits m) rules.within_limits)
+pub valid_limits : (m : MachineImage) → IsValid m → (memory_size m.segs ≤ 2 ^ 30) × IsWithinLimits (front_in m)
+valid_limits m valid = let rules : KeepsRules m = rules_kept m valid.unbroken in
+    limits_kept m (kept (is_within_limits m) rules.within_limits) (kept (is_known_paging m.arch m.sv48) rules.known_paging)
 
 pub valid_fits : (m : MachineImage) → IsValid m → FitsFields m
 valid_fits m valid =
-    let limits : (memory_size m.segs ≤ 2 ^ 30) × IsWithinLimits (header_of m) = valid_limits m valid in
-    let h : IsWithinLimits (header_of m) = limits.1 in
+    let limits : (memory_size m.segs ≤ 2 ^ 30) × IsWithinLimits (front_in m) = valid_limits m valid in
+    let h : IsWithinLimits (front_in m) = limits.1 in
     record {
       counts = (omega (arith, h.segs), omega (arith, h.avail), omega (arith, h.wanted));
       names = (omega (arith, h.host), omega (arith, h.version), omega (arith, h.panic));
       msgbuf = omega (arith, h.msgbuf);
       sizes = λ k d below. omega (arith, get_or-le-sum_by (λ seg. length seg.bytes) m.segs k d below, limits.0);
+      paging = h.paging;
     }
 
 -- the counts and the lengths stand in the fields
-counted : (m : MachineImage) (rest : List ℕ) → FitsFields m → IsCounted (front_of m ++ rest) (header_of m)
+counted : (m : MachineImage) (rest : List ℕ) → FitsFields m → IsCounted (front_of m ++ rest) (front_in m)
 counted m rest fits = record {
   segs = u32_le_at-spelled (front_of m ++ rest) 24 (length m.segs) fits.counts.0 refl;
   avail = u32_le_at-spelled (front_of m ++ rest) 28 (length m.avail) fits.counts.1 refl;
@@ -113,22 +97,26 @@ passes n k limit is below = grind (arith, nat_tests)
 some_arch : (n k : ℕ) → n ≡ k → 0 < k → nat_lt 0 n ≡ true
 some_arch n k is above = grind (arith, nat_tests)
 
-arch_within : (m : MachineImage) → (0 < number_of m.arch) × (number_of m.arch ≤ 3)
-arch_within m = elim m.arch as (λ a. (0 < number_of a) × (number_of a ≤ 3)) [ Amd64 ↦ (omega arith, omega arith) | Arm64 ↦ (omega arith, omega arith) | Riscv ↦ (omega arith, omega arith) ]
+arch_within : (arch : Arch) (sv48 : Bool) → (0 < number_of arch sv48) × (number_of arch sv48 ≤ 4)
+arch_within Amd64 sv48 = (omega arith, omega arith)
+arch_within Arm64 sv48 = (omega arith, omega arith)
+arch_within Riscv true = (omega arith, omega arith)
+arch_within Riscv false = (omega arith, omega arith)
 
-checks_kept : (m : MachineImage) (rest : List ℕ) → FitsFields m → IsWithinLimits (header_of m) → first_broken (front_checks (front_of m ++ rest)) ≡ None
+checks_kept : (m : MachineImage) (rest : List ℕ) → FitsFields m → IsWithinLimits (front_in m) → first_broken (front_checks (front_of m ++ rest)) ≡ None
 checks_kept m rest fits limits =
     let f : List ℕ = front_of m ++ rest in
-    let c : IsCounted f (header_of m) = counted m rest fits in
-    let arch : u32_le_at f 20 ≡ number_of m.arch = u32_le_at-spelled f 20 (number_of m.arch) (fits_number m.arch) refl in
+    let c : IsCounted f (front_in m) = counted m rest fits in
+    let number : ℕ = number_of m.arch m.sv48 in
+    let arch : u32_le_at f 20 ≡ number = u32_le_at-spelled f 20 number (fits_number m.arch m.sv48) refl in
     none_broken (front_checks f) (
       (bytes_eq-Decides (take 16 f) magic).1 refl,
       (
         eq-eqb (u32_le_at f 16) 1 (u32_le_at-spelled f 16 1 (omega arith) refl),
         (
-          some_arch (u32_le_at f 20) (number_of m.arch) arch (arch_within m).0,
+          some_arch (u32_le_at f 20) number arch (arch_within m.arch m.sv48).0,
           (
-            passes (u32_le_at f 20) (number_of m.arch) 3 arch (arch_within m).1,
+            passes (u32_le_at f 20) number 4 arch (arch_within m.arch m.sv48).1,
             (
               passes (u32_le_at f 24) (length m.segs) 64 c.segs limits.segs,
               (
@@ -180,11 +168,11 @@ abbrev shape_of : Seg → ℕ × ℕ
 shape_of seg = (seg.start, length seg.bytes)
 
 -- how long the tables are
-sixteens : {X : Type 0} (f : X → List ℕ) (size : (x : X) → length (f x) ≡ 16) (xs : List X) → length (flat_map f xs) ≡ 16 * length xs
+pub sixteens : {X : Type 0} (f : X → List ℕ) (size : (x : X) → length (f x) ≡ 16) (xs : List X) → length (flat_map f xs) ≡ 16 * length xs
 sixteens f size [] = refl
 sixteens f size (x ∷ xs) = omega (arith, length-append (f x) (flat_map f xs), size x, sixteens f size xs)
 
-eights : (xs : List ℕ) → length (flat_map u64 xs) ≡ 8 * length xs
+pub eights : (xs : List ℕ) → length (flat_map u64 xs) ≡ 8 * length xs
 eights [] = refl
 eights (x ∷ xs) = omega (arith, length-append (u64 x) (flat_map u64 xs), eights xs)
 
@@ -194,9 +182,9 @@ memory_length m = ap length (concat_is (map (λ seg. seg.bytes) m.segs))
 
 pub unfaulted : (m : MachineImage) → IsValid m → fault_place (spelling_of m) ≡ None
 unfaulted m valid =
-    let limits : (memory_size m.segs ≤ 2 ^ 30) × IsWithinLimits (header_of m) = valid_limits m valid in
+    let limits : (memory_size m.segs ≤ 2 ^ 30) × IsWithinLimits (front_in m) = valid_limits m valid in
     let fits : FitsFields m = valid_fits m valid in
-    let h : Front = header_of m in
+    let h : Front = front_in m in
     let table : List ℕ = flat_map seg_bytes m.segs in
     let r5 : List ℕ = m.texts.msgbuf ++ memory_of m in
     let r4 : List ℕ = m.texts.panic ++ r5 in

@@ -1,19 +1,37 @@
 -- The fields of an image's file as the reader keeps them.
-use Rattle.std.specs.Prelude.{◌≡◌, ℕ, ◌+◌, ◌*◌, ◌≤◌, List, ◌++◌, length, map, slice_range, None}
+use Rattle.std.specs.Prelude.{◌≡◌, ℕ, ◌+◌, ◌*◌, ◌≤◌, List, ◌++◌, length, map, slice_range, None, IsTrue}
 use Rattle.std.specs.List.{flat_map, range_with_len}
 use Rattle.fd_bytes.specs.Field.{u32_le_at, u64_le_at}
 use Rattle.fd_imgfile.specs.Reading.{first_broken, front_checks}
 use Rattle.fd_imgfile.specs.Spelling.{magic, number_of, u32, u64, avail_bytes, windows_of}
 use Rattle.fd_imgfile.specs.declared.front.Front.{Front}
 use Rattle.fd_imgfile.specs.declared.tables.Tables.{Tables}
+use Rattle.fd_image.specs.Image.{MachineImage, is_known_paging}
 use Rattle.fd_image.specs.declared.parts.Texts.{Texts}
 
 -- the 112 bytes of the fields
 abbrev pub fields_of : Front → List ℕ
 fields_of h =
-    magic ++ u32 1 ++ u32 (number_of h.arch) ++ (u32 h.segs ++ u32 h.avail ++ u32 h.wanted)
+    magic ++ u32 1 ++ u32 (number_of h.arch h.sv48) ++ (u32 h.segs ++ u32 h.avail ++ u32 h.wanted)
     ++ (u32 h.host ++ u32 h.version ++ u32 h.panic ++ u32 h.msgbuf)
     ++ u32 0 ++ u64 h.root ++ windows_of h.windows ++ u64 h.time
+
+-- the fields of an image
+abbrev pub front_in : MachineImage → Front
+front_in m = record {
+  arch = m.arch;
+  sv48 = m.sv48;
+  segs = length m.segs;
+  avail = length m.avail;
+  wanted = length m.wanted;
+  host = length m.texts.host;
+  version = length m.texts.version;
+  panic = length m.texts.panic;
+  msgbuf = length m.texts.msgbuf;
+  root = m.root;
+  windows = m.windows;
+  time = m.texts.time;
+}
 
 -- the counts and the lengths are those in the bytes
 pub record IsCounted (f : List ℕ) (h : Front) : Type 0 where
@@ -25,7 +43,7 @@ pub record IsCounted (f : List ℕ) (h : Front) : Type 0 where
   pub panic : u32_le_at f 44 ≡ h.panic
   pub msgbuf : u32_le_at f 48 ≡ h.msgbuf
 
--- the counts and the lengths are within their limits
+-- the counts and the lengths are within their limits, and Sv48 is on RISC-V alone
 pub record IsWithinLimits (h : Front) : Type 0 where
   pub segs : h.segs ≤ 64
   pub avail : h.avail ≤ 1024
@@ -34,6 +52,7 @@ pub record IsWithinLimits (h : Front) : Type 0 where
   pub version : h.version ≤ 1023
   pub panic : h.panic ≤ 1023
   pub msgbuf : h.msgbuf ≤ 1048576
+  pub paging : IsTrue (is_known_paging h.arch h.sv48)
 
 -- how many bytes the tables and the texts take
 abbrev pub tables_length : Front → ℕ

@@ -3,3 +3,4 @@ pub mod File
 pub mod Front
 pub mod Reading
 pub mod Spelling
+pub mod Writing

@@ -25,7 +25,7 @@ front_checks f =
     (bytes_eq (take 16 f) magic, 0)
     ∷ (u32_le_at f 16 == 1, 16)
     ∷ (nat_lt 0 (u32_le_at f 20), 20)
-    ∷ within f 20 3
+    ∷ within f 20 4
     ∷ within f 24 64
     ∷ within f 28 1024
     ∷ within f 32 262144

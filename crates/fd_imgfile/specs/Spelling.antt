@@ -1,5 +1,5 @@
 -- The file of a machine image. The format is this project's own; all numbers are little-endian.
-use Rattle.std.specs.Prelude.{ℕ, ◌^◌, ◌<◌, All, List, ◌++◌, length, map, codes}
+use Rattle.std.specs.Prelude.{ℕ, ◌^◌, ◌<◌, Bool, if◌then◌else◌, IsTrue, All, List, ◌++◌, length, map, codes}
 use Rattle.std.specs.Int.{w32, w64, to_le_bytes}
 use Rattle.std.specs.List.{concat, flat_map}
 use Rattle.fd_bytes.specs.declared.arch.Arch.{Arch}
@@ -7,7 +7,7 @@ use Rattle.fd_bytes.specs.declared.arch.Arch.TheVariants.{Amd64, Arm64, Riscv}
 use Rattle.fd_image.specs.declared.parts.Seg.{Seg}
 use Rattle.fd_image.specs.declared.parts.Texts.{Texts}
 use Rattle.fd_image.specs.declared.parts.Windows.{Windows}
-use Rattle.fd_image.specs.Image.{MachineImage}
+use Rattle.fd_image.specs.Image.{MachineImage, is_known_paging}
 
 abbrev pub u32 : ℕ → List ℕ
 u32 n = to_le_bytes w32 n
@@ -19,11 +19,11 @@ u64 n = to_le_bytes w64 n
 abbrev pub magic : List ℕ
 magic = codes "FD MACHINE IMAGE"
 
--- how the file numbers the architectures
-abbrev pub number_of : Arch → ℕ
-number_of Amd64 = 1
-number_of Arm64 = 2
-number_of Riscv = 3
+-- how the file numbers the architectures, of which RISC-V has a number of its own where it has Sv48
+abbrev pub number_of : Arch → Bool → ℕ
+number_of Amd64 sv48 = 1
+number_of Arm64 sv48 = 2
+number_of Riscv sv48 = if sv48 then 4 else 3
 
 -- how many segments, pairs of available memory and wanted pages there are
 abbrev pub counts_of : MachineImage → List ℕ
@@ -39,7 +39,7 @@ windows_of w = u64 w.kernbase ++ u64 w.kernspan ++ u64 w.dmapbase ++ u64 w.dmape
 -- the 112 bytes of the fields: magic, version 1, architecture, counts, lengths, a zero, root, windows, time
 abbrev pub front_of : MachineImage → List ℕ
 front_of m =
-    magic ++ u32 1 ++ u32 (number_of m.arch) ++ counts_of m ++ lengths_of m.texts ++ u32 0 ++ u64 m.root ++ windows_of m.windows ++ u64 m.texts.time
+    magic ++ u32 1 ++ u32 (number_of m.arch m.sv48) ++ counts_of m ++ lengths_of m.texts ++ u32 0 ++ u64 m.root ++ windows_of m.windows ++ u64 m.texts.time
 
 -- two numbers, one after the other
 abbrev pub pair_bytes : ℕ → ℕ → List ℕ
@@ -67,9 +67,10 @@ memory_of m = concat (map (λ seg. seg.bytes) m.segs)
 unfoldable pub spelling_of : MachineImage → List ℕ
 spelling_of m = front_of m ++ tables_of m ++ texts_of m.texts ++ memory_of m
 
--- the counts and the lengths fit their fields
+-- the counts and the lengths fit their fields, and the architecture has a number of its own
 pub record FitsFields (m : MachineImage) : Type 0 where
   pub counts : (length m.segs < 2 ^ 32) × (length m.avail < 2 ^ 32) × (length m.wanted < 2 ^ 32)
   pub names : (length m.texts.host < 2 ^ 32) × (length m.texts.version < 2 ^ 32) × (length m.texts.panic < 2 ^ 32)
   pub msgbuf : length m.texts.msgbuf < 2 ^ 32
   pub sizes : All (λ seg. length seg.bytes < 2 ^ 64) m.segs
+  pub paging : IsTrue (is_known_paging m.arch m.sv48)

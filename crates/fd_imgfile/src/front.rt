@@ -1,12 +1,13 @@
 //! The fields with which an image's file begins.
-ghost use Rattle.std.specs.Prelude.{◌≡◌, ◌+◌, ◌<◌, ◌≤◌, ◌^◌, IfNone, None, IfOk, IfErr, Some, length, slice_range};
+ghost use Rattle.std.specs.Prelude.{◌≡◌, ◌+◌, ◌<◌, ◌≤◌, ◌^◌, ◌++◌, IfNone, None, IfOk, IfErr, Some, IsTrue, length, slice_range, sum_by};
 ghost use Rattle.fd_bytes.specs.Field.{u32_le_at};
-ghost use Rattle.fd_imgfile.specs.Front.{fields_of, IsCounted, IsWithinLimits, tables_length, texts_length};
+ghost use Rattle.fd_image.specs.Image.{is_known_paging};
+ghost use Rattle.fd_imgfile.specs.Front.{fields_of, front_in, IsCounted, IsWithinLimits, tables_length, texts_length};
 ghost use Rattle.fd_imgfile.specs.Reading.{first_broken, front_checks, within};
-ghost use Rattle.fd_imgfile.specs.Spelling.{number_of, windows_of};
+ghost use Rattle.fd_imgfile.specs.Spelling.{number_of, u32, windows_of};
 
-use fd_bytes::{Arch, get_u32_le, get_u64_le};
-use fd_image::Windows;
+use fd_bytes::{Arch, Page, get_u32_le, get_u64_le};
+use fd_image::{Image, Windows};
 
 const MAGIC: [u8; 16] = *b"FD MACHINE IMAGE";
 
@@ -15,6 +16,7 @@ const MAGIC: [u8; 16] = *b"FD MACHINE IMAGE";
 #[derive(Clone, Copy)]
 pub(crate) struct Front {
     pub(crate) arch: Arch,
+    pub(crate) sv48: bool,
     pub(crate) segs: u32,
     pub(crate) avail: u32,
     pub(crate) wanted: u32,
@@ -25,6 +27,78 @@ pub(crate) struct Front {
     pub(crate) root: u64,
     pub(crate) windows: Windows,
     pub(crate) time: u64,
+}
+
+/// The counts and the lengths of an image are within their limits, and so is its memory. This has no effect.
+pub(crate) fn is_within_limits(image: &Image)
+    ensures fields { IsWithinLimits (front_in image.now) }
+    ensures memory { sum_by (λ seg. length seg.bytes) image.now.segs ≤ 2 ^ 30 }
+{
+    image.arch();
+}
+
+/// The fields of an image.
+pub(crate) fn front_in(image: &Image) -> Front
+    ensures { result ≡ front_in image.now }
+{
+    is_within_limits(image);
+    let texts = image.texts();
+    Front {
+        arch: image.arch(),
+        sv48: image.sv48(),
+        segs: image.segs().len() as u32,
+        avail: image.avail().len() as u32,
+        wanted: image.wanted().len() as u32,
+        host: texts.host.len() as u32,
+        version: texts.version.len() as u32,
+        panic: texts.panic.len() as u32,
+        msgbuf: texts.msgbuf.len() as u32,
+        root: image.root(),
+        windows: image.windows(),
+        time: texts.time,
+    }
+}
+
+/// The 112 bytes of the fields.
+pub(crate) fn spelled(front: &Front) -> Page<112>
+    ensures { result ≡ fields_of front.now }
+{
+    let mut page = Page::new();
+    page.put(&MAGIC);
+    page.put_u32_le(1);
+    page.put_u32_le(number_of(front.arch, front.sv48));
+    put_counts(&mut page, front);
+    page.put_u32_le(0);
+    page.put_u64_le(front.root);
+    put_windows(&mut page, &front.windows);
+    page.put_u64_le(front.time);
+    page
+}
+
+fn put_counts(page: &mut Page<112>, front: &Front)
+    requires { length page.old ≡ 24 }
+    ensures bytes { page.new ≡ page.old ++ (u32 front.now.segs ++ u32 front.now.avail ++ u32 front.now.wanted) ++ (u32 front.now.host ++ u32 front.now.version ++ u32 front.now.panic ++ u32 front.now.msgbuf) }
+    ensures len { length page.new ≡ 52 }
+{
+    page.put_u32_le(front.segs);
+    page.put_u32_le(front.avail);
+    page.put_u32_le(front.wanted);
+    page.put_u32_le(front.host);
+    page.put_u32_le(front.version);
+    page.put_u32_le(front.panic);
+    page.put_u32_le(front.msgbuf);
+}
+
+fn put_windows(page: &mut Page<112>, windows: &Windows)
+    requires { length page.old ≡ 64 }
+    ensures bytes { page.new ≡ page.old ++ windows_of windows.now }
+    ensures len { length page.new ≡ 104 }
+{
+    page.put_u64_le(windows.kernbase);
+    page.put_u64_le(windows.kernspan);
+    page.put_u64_le(windows.dmapbase);
+    page.put_u64_le(windows.dmapend);
+    page.put_u64_le(windows.dmapphys);
 }
 
 /// How many bytes the tables take.
@@ -68,7 +142,7 @@ fn broken_field(bytes: &[u8]) -> Option<u64>
         (bytes[..16] == MAGIC[..], 0),
         (get_u32_le(bytes, 16) == 1, 16),
         (0 < get_u32_le(bytes, 20), 20),
-        within(bytes, 20, 3),
+        within(bytes, 20, 4),
         within(bytes, 24, 64),
         within(bytes, 28, 1024),
         within(bytes, 32, 262_144),
@@ -106,8 +180,10 @@ fn fields_of(bytes: &[u8]) -> Front
     ensures counts { IsCounted bytes.now result }
     ensures limits { IsWithinLimits result }
 {
+    let (arch, sv48) = arch_of(get_u32_le(bytes, 20));
     Front {
-        arch: arch_of(get_u32_le(bytes, 20)),
+        arch,
+        sv48,
         segs: get_u32_le(bytes, 24),
         avail: get_u32_le(bytes, 28),
         wanted: get_u32_le(bytes, 32),
@@ -134,15 +210,28 @@ fn windows_in(bytes: &[u8]) -> Windows
     }
 }
 
-// The architecture of a number.
-fn arch_of(number: u32) -> Arch
+// The number of an architecture, with Sv48 or without.
+fn number_of(arch: Arch, sv48: bool) -> u32
+    ensures { result ≡ number_of arch sv48 }
+{
+    match arch {
+        Arch::Amd64 => 1,
+        Arch::Arm64 => 2,
+        Arch::Riscv => { if sv48 { 4 } else { 3 } }
+    }
+}
+
+// The architecture of a number, and whether it has Sv48.
+fn arch_of(number: u32) -> (Arch, bool)
     requires some { 0 < number }
-    requires last { number ≤ 3 }
-    ensures { number_of result ≡ number }
+    requires last { number ≤ 4 }
+    ensures number { number_of result.0 result.1 ≡ number }
+    ensures known { IsTrue (is_known_paging result.0 result.1) }
 {
     match number {
-        1 => Arch::Amd64,
-        2 => Arch::Arm64,
-        _ => Arch::Riscv,
+        1 => (Arch::Amd64, false),
+        2 => (Arch::Arm64, false),
+        3 => (Arch::Riscv, false),
+        _ => (Arch::Riscv, true),
     }
 }

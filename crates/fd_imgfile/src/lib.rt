@@ -1,5 +1,5 @@
-//! The file of a machine image: the image's one spelling, read back with a named refusal of every other file. Stands on
-//! `fd_image` for the image and on `fd_site` for the file. The format is this project's own.
+//! The file of a machine image: the image's one spelling, written, and read back with a named refusal of every other
+//! file. Stands on `fd_image` for the image, on `fd_raw` for its memory and on `fd_site` for the file. The format is this project's own.
 #![tactic(auto)]
 
 mod fault;

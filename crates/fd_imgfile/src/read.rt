@@ -15,8 +15,12 @@ use crate::fault::ImageFault;
 use crate::front::{Front, read_fields, tables_length, texts_length};
 use crate::tables::{Tables, tables_in, whole_length};
 use fd_image::{Image, Parts, Seg, Sequence, Texts};
+use fd_raw::{Filling, Region};
 use fd_site::Site;
 use std::alloc::Global;
+
+// How many bytes of a segment are read at once.
+const PART: usize = 256 << 10;
 
 /// Reads the image of a file. The file is no image where its fields, its tables or its length say so; else the image may
 /// break one of its rules. Memory is taken from `alloc` once the length is known to be right, and the segments' bytes are
@@ -61,6 +65,7 @@ fn read_parts<S: Site>(
     let segs = read_segments(alloc, site, name, memory_at, tables.segs.as_slice())?;
     Ok(Parts {
         arch: front.arch,
+        sv48: front.sv48,
         segs: Sequence::new(segs),
         avail: Sequence::new(tables.avail),
         wanted: Sequence::new(tables.wanted),
@@ -112,6 +117,34 @@ fn read_bytes<S: Site>(
     site.read_file(name, at, bytes.as_mut_slice())?;
     prove!(bytes.len() as u64 == len);
     Ok(bytes)
+}
+
+// The file's bytes from `at` on, `len` of them, read to where they stay. Each part is made zero and read in turn, while
+// it is in the processor's cache.
+fn read_region<S: Site>(
+    alloc: Global,
+    site: &mut S,
+    name: &str,
+    at: u64,
+    len: u64,
+) -> Result<Region, ImageFault>
+    requires name { IsTrue (is_good_name name.now) }
+    requires inside { IsFileAnd (S.seen site.old).told name.now (λ file. at + len ≤ length file) }
+    requires fits { at + len < 2 ^ 64 }
+    ensures bytes { IfOk result (λ region. OfFile (S.seen site.old).told name.now (λ file. region ≡ slice_range file at (at + len))) }
+    ensures len { IfOk result (λ region. length region ≡ len) }
+    ensures silent { SaysNothing result }
+    ensures untouched { Untouched (S.seen site.old) (S.seen site.new) }
+    ensures cause { IsErrOf result SiteFault → Rose (S.seen site.old).faults (S.seen site.new).faults }
+{
+    let mut filling = Filling::with_room(alloc, len as usize)?;
+    while filling.len() < filling.room() {
+        let done = filling.len();
+        let count = (filling.room() - done).min(PART);
+        filling.grow_by_zeros(count);
+        site.read_file(name, at + done as u64, filling.view_mut(done, count))?;
+    }
+    Ok(Region::of(filling))
 }
 
 // Reads the table of segments, where a file of this length that begins with these fields has the length that they and the
@@ -235,7 +268,7 @@ fn read_segments<S: Site>(
     let mut next = at;
     for pair in table {
         let (start, size) = *pair;
-        let bytes = Sequence::new(read_bytes(alloc, site, name, next, size)?);
+        let bytes = read_region(alloc, site, name, next, size)?;
         match segs.push(Seg { start, bytes }) {
             Ok(()) => next += size,
             Err(_) => return Err(ImageFault::NoMemory),

@@ -2,11 +2,15 @@
 ghost use Rattle.std.specs.Prelude.{◌≡◌, ◌+◌, ◌*◌, ◌≤◌, ◌++◌, IfOk, length, map, sum};
 ghost use Rattle.std.specs.List.{flat_map};
 ghost use Rattle.fd_imgfile.specs.Front.{HasCounts, IsWithinLimits, bytes_of, lengths_in, second, tables_length, texts_length};
-ghost use Rattle.fd_imgfile.specs.Spelling.{u64, avail_bytes};
+ghost use Rattle.fd_imgfile.specs.Spelling.{u64, avail_bytes, seg_bytes};
 
 use crate::front::{Front, tables_length, texts_length};
-use fd_bytes::get_u64_le;
+use fd_bytes::{Page, get_u64_le};
+use fd_image::Seg;
 use std::alloc::{AllocError, Global};
+
+/// How many numbers a buffer of the table of wanted pages has.
+pub(crate) const NUMBERS: usize = 512;
 
 /// Each segment's start and length, each pair of available memory, and the wanted pages.
 #[derive(Drop)]
@@ -77,4 +81,42 @@ fn read_numbers(alloc: Global, bytes: &[u8], count: usize) -> Result<Vec<u64>, A
         numbers.push(get_u64_le(bytes, 8 * i))?;
     }
     Ok(numbers)
+}
+
+/// The table of these segments.
+pub(crate) fn segs_page(segs: &[Seg]) -> Page<1024>
+    requires { length segs.now ≤ 64 }
+    ensures { result ≡ flat_map seg_bytes segs.now }
+{
+    let mut page = Page::new();
+    for seg in segs {
+        page.put_u64_le(seg.start);
+        page.put_u64_le(seg.bytes.len() as u64);
+    }
+    page
+}
+
+/// The table of these pairs of available memory.
+pub(crate) fn avail_page(avail: &[(u64, u64)]) -> Page<16384>
+    requires { length avail.now ≤ 1024 }
+    ensures { result ≡ flat_map avail_bytes avail.now }
+{
+    let mut page = Page::new();
+    for pair in avail {
+        page.put_u64_le(pair.0);
+        page.put_u64_le(pair.1);
+    }
+    page
+}
+
+/// These numbers, one after another.
+pub(crate) fn numbers_page(numbers: &[u64]) -> Page<4096>
+    requires { length numbers.now ≤ 512 }
+    ensures { result ≡ flat_map u64 numbers.now }
+{
+    let mut page = Page::new();
+    for number in numbers {
+        page.put_u64_le(*number);
+    }
+    page
 }
