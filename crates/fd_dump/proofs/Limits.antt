@@ -1,7 +1,7 @@
 -- What the rules of a valid image say of its windows, ranges and texts.
 use Rattle.std.proofs.Common.{◌≡◌, ◌∙◌, ℕ, suc, ◌+◌, ◌-◌, ◌*◌, ◌/◌, ◌%◌, ◌^◌, ◌≤◌, Bool, true, false, ◌&&◌, ◌||◌, List, [], ◌∷◌, length, get_or, None, sum_by, refl, ap, sym, arith, lit≤, length-append}
 use Rattle.std.proofs.Math.Dec.{eqb-suc-zero}
-use Rattle.std.specs.Prelude.{nat_le, All}
+use Rattle.std.specs.Prelude.{nat_le, All, if◌then◌else◌}
 use Rattle.std.specs.List.{range_with_len}
 use Rattle.std.proofs.lemmas.List.FromFn.{length-range_with_len}
 use Rattle.fd_bitmap.specs.Pages.{pages_of, consecutive, first_page, end_page}
@@ -125,11 +125,14 @@ pub record IsTall (levels height : ℕ) : Type 0 where
   pub most_levels : levels ≤ 4
   pub low : height + 2 ≤ levels
 
-tall : (arch : Arch) → IsTall (profile_of arch).levels (directory_height_of arch)
-tall Amd64 = record { some_levels = lit≤ tt; most_levels = lit≤ tt; low = lit≤ tt }
-tall Arm64 = record { some_levels = lit≤ tt; most_levels = lit≤ tt; low = lit≤ tt }
-tall Riscv = record { some_levels = lit≤ tt; most_levels = lit≤ tt; low = lit≤ tt }
+tall : (arch : Arch) (sv48 : Bool) → IsTall (if sv48 then 4 else (profile_of arch).levels) (directory_height_of arch)
+tall Amd64 true = record { some_levels = lit≤ tt; most_levels = lit≤ tt; low = lit≤ tt }
+tall Arm64 true = record { some_levels = lit≤ tt; most_levels = lit≤ tt; low = lit≤ tt }
+tall Riscv true = record { some_levels = lit≤ tt; most_levels = lit≤ tt; low = lit≤ tt }
+tall Amd64 false = record { some_levels = lit≤ tt; most_levels = lit≤ tt; low = lit≤ tt }
+tall Arm64 false = record { some_levels = lit≤ tt; most_levels = lit≤ tt; low = lit≤ tt }
+tall Riscv false = record { some_levels = lit≤ tt; most_levels = lit≤ tt; low = lit≤ tt }
 
 -- the same of the levels and the height of entries that serve an image
 pub tall_of : (levels height : ℕ) (m : MachineImage) → levels ≡ levels_of m → height ≡ directory_height_of m.arch → IsTall levels height
-tall_of levels height m is_levels is_height = rw (is_levels, is_height) (tall m.arch)
+tall_of levels height m is_levels is_height = rw (is_levels, is_height) (tall m.arch m.sv48)

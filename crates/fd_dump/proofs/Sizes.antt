@@ -1,34 +1,24 @@
 -- How many bytes the sections have.
-use Rattle.std.proofs.Common.{◌≡◌, ◌∙◌, ℕ, zero, suc, ◌+◌, ◌-◌, ◌*◌, ◌%◌, ◌^◌, ◌<◌, ◌≤◌, Bool, true, false, List, [], ◌∷◌, ◌++◌, length, replicate, Option, Some, None, refl, ap, arith, length-append, lit≤, drop, length-take, length-drop, if◌then◌else◌}
+use Rattle.std.proofs.Common.{◌≡◌, ◌∙◌, ℕ, zero, suc, ◌+◌, ◌-◌, ◌*◌, ◌%◌, ◌^◌, ◌<◌, ◌≤◌, Bool, List, [], ◌∷◌, ◌++◌, length, replicate, refl, ap, arith, length-append}
 use Rattle.std.specs.Int.{w64, to_le_bytes, div_ceil}
 use Rattle.std.specs.List.{flat_map, range_with_len}
 use Rattle.std.proofs.lemmas.List.{length-replicate}
 use Rattle.std.proofs.lemmas.List.FromFn.{length-map-range_with_len}
-use Rattle.fd_bytes.specs.declared.arch.Arch.{Arch}
-use Rattle.fd_bytes.specs.declared.arch.Arch.TheVariants.{Amd64, Arm64, Riscv}
 use Rattle.fd_walk.specs.PageTables.{PageTables}
 use Rattle.fd_walk.specs.Directory.{DirectoryForm, directory_bytes, directory_entry}
 use Rattle.fd_pte.specs.Entry.{bytes_under}
-use Rattle.fd_mini.specs.declared.header.MiniHeader.{MiniHeader}
 use Rattle.fd_mini.specs.Page as mini
 use Rattle.fd_mini.proofs.Layouts.{length-page_of}
 use Rattle.fd_mini.specs.Places.{rounded_up}
 use Rattle.fd_image.specs.Image.{MachineImage, IsValid}
-use Rattle.fd_image.specs.Image.{is_whole_pages}
-use Rattle.fd_image.specs.Physical as physical
-use Rattle.fd_image.specs.Physical.{has_address}
-use Rattle.fd_image.specs.declared.parts.Seg.{Seg}
-use Rattle.fd_image.proofs.Valid.{segment_found}
-use Rattle.fd_bitmap.specs.Bits.{byte_at}
+use Rattle.fd_bitmap.specs.Bits.{byte_at, set_count}
 use Rattle.fd_bitmap.specs.Pages.{pages_of}
-use Rattle.std.specs.Option.{option_map}
 use Rattle.std.proofs.lemmas.List.{length-map}
-use Rattle.std.proofs.lemmas.Bool.Decides.{nat_tests}
+use Rattle.std.proofs.lemmas.List.Sums.{count_by-le-length}
 use Rattle.fd_dump.specs.Dumped.{tables_in, is_dumped, pages_with_bits, dumped_bits}
 use Rattle.fd_dump.specs.Minidump.{filled, avail_bytes, bitmap_bytes, form_of, entry_count, directory_of, memory_of, mini_header_of, minidump_of}
-use Rattle.fd_dump.specs.Sections.{bytes_of, dumped_bytes}
 use Rattle.fd_dump.proofs.Limits.{pages_few, small, window_divided}
-use Rattle.fd_dump.proofs.Memory.{memory_by_page}
+use Rattle.fd_dump.proofs.DumpedPages.{length-memory_from}
 use Rattle.fd_dump.proofs.Directory.{whole_of}
 
 -- a filled section has its size, rounded up
@@ -60,43 +50,12 @@ length-bits m = length-map (pages_with_bits m) (is_dumped m) ∙ length-map (pag
 pub length-bitmap : (bits : List Bool) → length (bitmap_bytes bits) ≡ div_ceil (length bits) 8
 length-bitmap bits = length-map-range_with_len (byte_at bits) 0 (div_ceil (length bits) 8)
 
--- a page of an image has 4096 bytes
-page_bytes : (seg : Seg) (pa : ℕ) → has_address pa seg ≡ true → is_whole_pages seg ≡ true → length (physical.page_in seg pa) ≡ 4096
-page_bytes seg pa has whole =
-    let begins : seg.start ≤ pa = grind (arith, nat_tests) in
-    let ends : pa < seg.start + length seg.bytes = grind (arith, nat_tests) in
-    let aligned : seg.start % 4096 ≡ 0 = grind (arith, nat_tests) in
-    let pages : length seg.bytes % 4096 ≡ 0 = grind (arith, nat_tests) in
-    let at = physical.page_start pa - seg.start in
-    let room : at + 4096 ≤ length seg.bytes = omega arith in
-    length-take (at + 4096 - at) (drop at seg.bytes) ∙ omega (arith, length-drop at seg.bytes)
-
-found_bytes : (m : MachineImage) (pa : ℕ) (found : Option Seg) → IsValid m → physical.segment_of m pa ≡ found
-    → (count : ℕ) × (count ≤ 1) × (length (bytes_of (option_map (λ seg. physical.page_in seg pa) found)) ≡ 4096 * count)
-found_bytes m pa None valid is = (0, lit≤ tt, refl)
-found_bytes m pa (Some seg) valid is = let has = segment_found m pa seg valid is in (1, lit≤ tt, page_bytes seg pa has.0 has.1)
-
--- a page that is dumped takes 4096 bytes, and another none
-taken : (m : MachineImage) (page : ℕ) → IsValid m → (count : ℕ) × (count ≤ 1) × (length (dumped_bytes m page) ≡ 4096 * count)
-unfolding physical.page_of
-taken m page valid = here (is_dumped m page)
-  where
-    here : (dumped : Bool) → (count : ℕ) × (count ≤ 1) × (length (if dumped then bytes_of (physical.page_of m page) else []) ≡ 4096 * count)
-    here true = found_bytes m page (physical.segment_of m page) valid refl
-    here false = (0, lit≤ tt, refl)
-
-all_taken : (m : MachineImage) (pages : List ℕ) → IsValid m → (count : ℕ) × (count ≤ length pages) × (length (flat_map (dumped_bytes m) pages) ≡ 4096 * count)
-all_taken m [] valid = (0, lit≤ tt, refl)
-all_taken m (page ∷ pages) valid =
-    let first = taken m page valid in
-    let later = all_taken m pages valid in
-    (first.0 + later.0, omega arith, length-append (dumped_bytes m page) (flat_map (dumped_bytes m) pages) ∙ omega arith)
-
 -- the dumped pages are whole, and at most 2^28
-pub length-memory : (m : MachineImage) → IsValid m → (count : ℕ) × (count ≤ 2 ^ 28) × (length (memory_of m) ≡ 4096 * count)
-length-memory m valid =
-    let all = all_taken m (pages_with_bits m) valid in
-    (all.0, omega (arith, pages_few m valid, length-map (pages_of m.avail) (λ page. page * 4096)), ap length (memory_by_page m) ∙ all.2)
+pub length-memory : (m : MachineImage) → IsValid m → length (memory_of m) ≡ 4096 * set_count (dumped_bits m)
+length-memory m valid = length-memory_from m valid (pages_with_bits m)
+
+pub dumped_few : (m : MachineImage) → IsValid m → set_count (dumped_bits m) ≤ 2 ^ 28
+dumped_few m valid = omega (arith, count_by-le-length (λ bit. bit) (dumped_bits m), length-bits m, pages_few m valid)
 
 -- the sizes of the six sections
 six_lengths : (a b c d e f : List ℕ) (header msgbuf avail bitmap directory : ℕ)
@@ -118,18 +77,15 @@ length-minidump m =
 
 pub minidump_pages : (m : MachineImage) → IsValid m → length (minidump_of m) % 4096 ≡ 0
 minidump_pages m valid =
-    let memory = length-memory m valid in
-    let whole = whole_of m.arch m.windows (window_divided m valid) in
-    omega (arith, length-minidump m, whole, memory.2)
+    omega (arith, length-minidump m, whole_of m.arch m.windows (window_divided m valid), length-memory m valid)
 
 pub minidump_some : (m : MachineImage) → IsValid m → 0 < length (minidump_of m)
 minidump_some m valid = omega (arith, length-minidump m)
 
 pub minidump_small : (m : MachineImage) → IsValid m → length (minidump_of m) ≤ 2 ^ 62
 minidump_small m valid =
-    let memory = length-memory m valid in
     let limits = small m valid in
     let window = window_divided m valid in
-    omega (arith, length-minidump m, pages_few m valid, memory.1, memory.2)
+    omega (arith, length-minidump m, pages_few m valid, length-memory m valid, dumped_few m valid)
 
 pub ruleset lengths = (length-avail, length-bits)

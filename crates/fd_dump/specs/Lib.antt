@@ -3,6 +3,7 @@ pub mod Header
 pub mod KernelRead
 pub mod Marks
 pub mod Minidump
+pub mod Plan
 pub mod Sections
 pub mod Serves
 pub mod Translation

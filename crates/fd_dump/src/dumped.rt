@@ -8,8 +8,9 @@ ghost use Rattle.fd_dump.specs.Serves.{Serves};
 ghost use Rattle.fd_dump.specs.Marks.{marked};
 
 use fd_bitmap::{Avail, Bitmap};
+use fd_bytes::Arch;
 use fd_image::{Image, Windows};
-use fd_pte::Entry;
+use fd_pte::{Amd64, Arm64, Entry, Riscv};
 use fd_walk::{Leaf, Walker};
 use std::alloc::{AllocError, Global};
 
@@ -149,7 +150,25 @@ fn mark_dumped_tables<E: Entry, const LEVELS: usize>(
 }
 
 /// The bitmap of the dumped pages, of those that have a bit.
-pub(crate) fn dumped_bits<E: Entry, const LEVELS: usize>(
+pub(crate) fn dumped_bits(alloc: Global, image: &Image, avail: &Avail) -> Result<Bitmap, AllocError>
+    requires { avail.now ≡ pages_of image.now.avail }
+    ensures { IfOk result (λ map. map ≡ dumped_bits image.now) }
+{
+    match image.arch() {
+        Arch::Amd64 => walked_bits::<Amd64, 4>(alloc, image, avail),
+        Arch::Arm64 => walked_bits::<Arm64, 4>(alloc, image, avail),
+        Arch::Riscv => {
+            if image.levels() == 4 {
+                walked_bits::<Riscv, 4>(alloc, image, avail)
+            } else {
+                walked_bits::<Riscv, 3>(alloc, image, avail)
+            }
+        }
+    }
+}
+
+/// The same of an image whose page tables have these entries.
+fn walked_bits<E: Entry, const LEVELS: usize>(
     alloc: Global,
     image: &Image,
     avail: &Avail,

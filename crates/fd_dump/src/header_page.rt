@@ -2,6 +2,7 @@
 ghost use Rattle.std.specs.Prelude.{◌≡◌, ◌+◌, ◌*◌, ◌≤◌, ◌^◌, length};
 ghost use Rattle.std.specs.Int.{div_ceil};
 ghost use Rattle.fd_bitmap.specs.Pages.{pages_of};
+ghost use Rattle.fd_image.specs.Image.{IsValid};
 ghost use Rattle.fd_pte.specs.Architecture.{directory_height_of};
 ghost use Rattle.fd_pte.specs.Entry.{bytes_under};
 ghost use Rattle.fd_mini.specs.Places.{rounded_up};
@@ -16,7 +17,8 @@ use fd_pte::directory_height;
 #[tactic(auto, using(crate::proofs::Sizes::lengths))]
 pub(crate) fn mini_header(image: &Image, bits: u64) -> MiniHeader
     requires { bits ≡ length (pages_of image.now.avail) }
-    ensures { result ≡ mini_header_of image.now }
+    ensures value { result ≡ mini_header_of image.now }
+    ensures valid { IsValid image.now }
 {
     let arch = image.arch();
     let windows = image.windows();

@@ -4,10 +4,13 @@
 
 mod dumped;
 mod header_page;
-mod minidump;
+mod memory;
+mod pages;
 mod plan;
 mod sections;
+mod stream;
 #[cfg(test)]
 mod tests;
 
 pub use plan::Plan;
+pub use stream::Stream;

@@ -1,14 +1,17 @@
-//! Minidumps of three small machines, byte by byte where it tells.
+//! Minidumps of small machines, byte by byte where it tells.
+ghost use Rattle.fd_dump.specs.Plan.{IsPlanOf};
+
 use crate::Plan;
 use fd_bytes::Arch;
 use fd_image::{Image, Parts, Seg, Sequence, Texts, Windows};
+use fd_raw::Region;
 use fd_site::Pieces;
 use std::alloc::{AllocError, Global};
 use std::process::Abort;
 use std::test::Fail;
 
-// The entries of the amd64 machine's page tables that aren't 0.
-const ENTRIES: [(u64, u64); 8] = [
+// The entries of the machines' page tables that aren't 0.
+const ENTRIES: [(u64, u64); 11] = [
     (0x10_0fe0, 0x10_1003),
     (0x10_1000, 0x4000_0083),
     (0x10_1008, 0x10_2003),
@@ -17,6 +20,9 @@ const ENTRIES: [(u64, u64); 8] = [
     (0x10_3000, 0x10_4003),
     (0x10_3008, 0x8000_0000_0010_5001),
     (0x10_3010, 0x6000_0003),
+    (0xc000_0800, 0x3000_0007),
+    (0x1_0000_0800, 0x4000_0401),
+    (0x1_0000_1000, 0x4000_0007),
 ];
 
 // The pages whose words are their own addresses.
@@ -38,12 +44,16 @@ fn word_at(pa: u64) -> u64 {
     0
 }
 
-fn segment(alloc: Global, start: u64, pages: u64) -> Result<Seg, AllocError> {
-    let mut bytes = Vec::new(alloc);
-    for index in 0..pages.min(6) * 512 {
-        bytes.extend_from_slice(&word_at(start.wrapping_add(8 * index)).to_le_bytes())?;
+fn fill(words: &mut [u8], start: u64) {
+    for (index, word) in words.chunks_exact_mut(8).enumerate() {
+        word.copy_from_slice(&word_at(start.wrapping_add(8 * index as u64)).to_le_bytes());
     }
-    let bytes = Sequence::new(bytes);
+}
+
+fn segment(alloc: Global, start: u64, pages: u64) -> Result<Seg, AllocError> {
+    let len = 4096 * pages.min(512) as usize;
+    let mut bytes = Region::new(alloc, len)?;
+    fill(bytes.view_mut(0, len), start);
     Ok(Seg { start, bytes })
 }
 
@@ -69,6 +79,7 @@ fn texts(alloc: Global, msgbuf: &[u8]) -> Result<Texts, AllocError> {
 #[derive(Clone, Copy)]
 struct Machine<'a> {
     arch: Arch,
+    sv48: bool,
     segs: &'a [(u64, u64)],
     avail: &'a [(u64, u64)],
     wanted: &'a [u64],
@@ -80,6 +91,7 @@ struct Machine<'a> {
 fn image_of(alloc: Global, machine: &Machine) -> Result<Image, Fail> {
     let parts = Parts {
         arch: machine.arch,
+        sv48: machine.sv48,
         segs: Sequence::new(segments(alloc, machine.segs)?),
         avail: Sequence::new(machine.avail.to_vec(alloc)?),
         wanted: Sequence::new(machine.wanted.to_vec(alloc)?),
@@ -97,6 +109,7 @@ fn riscv(alloc: Global) -> Result<Image, Fail> {
         alloc,
         &Machine {
             arch: Arch::Riscv,
+            sv48: false,
             segs: &[(start, 6)],
             avail: &[(start, start + 0x6000)],
             wanted: &[start + 0x1000, start + 0x2000, start + 0x4000],
@@ -119,6 +132,7 @@ fn amd64(alloc: Global) -> Result<Image, Fail> {
         alloc,
         &Machine {
             arch: Arch::Amd64,
+            sv48: false,
             segs: &[(0x10_0000, 6), (0x401f_f000, 2), (0x6000_0000, 1)],
             avail: &[(0x10_0000, 0x10_6000), (0x401f_f000, 0x4020_1000)],
             wanted: &[0x10_0000],
@@ -142,6 +156,7 @@ fn arm64(alloc: Global) -> Result<Image, Fail> {
         alloc,
         &Machine {
             arch: Arch::Arm64,
+            sv48: false,
             segs: &[(start, 3)],
             avail: &[(start, start + 0x3000)],
             wanted: &[start + 0x1000, start + 0x2000],
@@ -151,6 +166,55 @@ fn arm64(alloc: Global) -> Result<Image, Fail> {
                 kernspan: 0x40_0000,
                 dmapbase: 0xffff_a000_0000_0000,
                 dmapend: 0xffff_a000_0000_2000,
+                dmapphys: start,
+            },
+            msgbuf: b"",
+        },
+    )
+}
+
+// Two segments that touch, all of whose pages a leaf maps.
+fn touching(alloc: Global) -> Result<Image, Fail> {
+    let start = 0xc000_0000;
+    let middle = start + 300 * 4096;
+    image_of(
+        alloc,
+        &Machine {
+            arch: Arch::Riscv,
+            sv48: false,
+            segs: &[(start, 300), (middle, 2)],
+            avail: &[(start, middle), (middle, middle + 0x2000)],
+            wanted: &[],
+            root: start,
+            windows: Windows {
+                kernbase: 0xffff_ffc0_0000_0000,
+                kernspan: 0x20_0000,
+                dmapbase: 0xffff_ffd0_0000_0000,
+                dmapend: 0xffff_ffd0_0020_0000,
+                dmapphys: start,
+            },
+            msgbuf: b"",
+        },
+    )
+}
+
+// Page tables of four levels, with a leaf of 1 GiB.
+fn sv48(alloc: Global) -> Result<Image, Fail> {
+    let start = 0x1_0000_0000;
+    image_of(
+        alloc,
+        &Machine {
+            arch: Arch::Riscv,
+            sv48: true,
+            segs: &[(start, 2)],
+            avail: &[(start, start + 0x2000)],
+            wanted: &[],
+            root: start,
+            windows: Windows {
+                kernbase: 0xffff_8000_0000_0000,
+                kernspan: 0x20_0000,
+                dmapbase: 0xffff_9000_0000_0000,
+                dmapend: 0xffff_9000_0000_2000,
                 dmapphys: start,
             },
             msgbuf: b"",
@@ -273,4 +337,73 @@ fn check_header(rt: &impl Abort, alloc: Global, image: &Image) -> Result<(), Fai
 fn the_header_tells_of_the_dump(rt: HostRuntime) -> Result<(), Fail> {
     let image = riscv(rt.alloc())?;
     check_header(&rt, rt.alloc(), &image)
+}
+
+const SV48_WORDS: [(usize, u64); 6] = [
+    (8192, 3),
+    (12288, 0x4000_0007),
+    (12296, 0x4000_0407),
+    (16384, 0),
+    (18432, 0x4000_0401),
+    (20480, 0x4000_0007),
+];
+
+#[test]
+fn tables_of_four_levels_are_walked(rt: HostRuntime) -> Result<(), Fail> {
+    let image = sv48(rt.alloc())?;
+    check_words(&rt, rt.alloc(), &image, 24576, &SV48_WORDS)
+}
+
+fn check_pages(rt: &impl Abort, plan: &Plan, image: &Image, dump: &[u8])
+    requires { IsPlanOf plan.now image.now }
+{
+    let mut page = [0; 4096];
+    for index in 0..plan.length() / 4096 {
+        plan.page_at(image, index, &mut page);
+        assert!(rt;
+            bytes_at(dump, 4096 * index as usize, 4096) == page.as_slice(),
+            "page {index}"
+        );
+    }
+}
+
+fn check_pieces(rt: &impl Abort, alloc: Global, image: &Image) -> Result<(), Fail> {
+    let dump = dump_of(alloc, image)?;
+    let plan = Plan::prepare(alloc, image)?;
+    check_pages(rt, &plan, image, dump.as_slice());
+    Ok(())
+}
+
+#[test]
+fn pieces_are_the_pages_one_after_another(rt: HostRuntime) -> Result<(), Fail> {
+    let image = touching(rt.alloc())?;
+    check_pieces(&rt, rt.alloc(), &image)
+}
+
+// How long the pieces are, to the first that is empty.
+fn lengths(alloc: Global, image: &Image) -> Result<Vec<usize>, AllocError> {
+    let plan = Plan::prepare(alloc, image)?;
+    let mut lengths = Vec::new(alloc);
+    let mut pieces = plan.pieces(image);
+    for _ in 0..plan.length() / 4096 {
+        if !pieces.advance() {
+            return Ok(lengths);
+        }
+        lengths.push(pieces.piece().len())?;
+    }
+    Ok(lengths)
+}
+
+fn check_lengths(rt: &impl Abort, alloc: Global, image: &Image) -> Result<(), Fail> {
+    let lengths = lengths(alloc, image)?;
+    // After 1 MiB a run is cut, and it ends with its segment.
+    let want = [4096, 4096, 4096, 4096, 256 * 4096, 44 * 4096, 2 * 4096];
+    assert_eq!(rt; lengths.as_slice(), want.as_slice());
+    Ok(())
+}
+
+#[test]
+fn dumped_pages_are_lent_as_runs(rt: HostRuntime) -> Result<(), Fail> {
+    let image = touching(rt.alloc())?;
+    check_lengths(&rt, rt.alloc(), &image)
 }

@@ -6,4 +6,4 @@ use Rattle.fd_dump.proofs.plan.Plan.header.Goals as goal
 
 pub returns-clause-labels : goal.returns-clause-labels
 returns-clause-labels c =
-    subst FitsFields (sym c.fields.ensures.value) (header_within_fields c.args.image.now c.args.block c.fields.ensures.valid c.ranges.block.fits).fits
+    subst FitsFields (sym c.fields.ensures) (header_within_fields c.args.image.now c.args.block c.requires.valid c.ranges.block.fits).fits
