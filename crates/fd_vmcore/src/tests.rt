@@ -28,6 +28,15 @@ const RISCV: MiniHeader = MiniHeader {
     flags: 0,
 };
 
+// The same machine with a larger bitmap, which in riscv's first version follows the message buffer: at byte 65536 it has
+// the bits of the six pages.
+const LARGE_BITMAP: MiniHeader = MiniHeader {
+    bitmapsize: 69632,
+    ..RISCV
+};
+
+const FIRST_VERSION: [(usize, u8); 2] = [(24, 1), (8192 + 65536, 0x16)];
+
 const ARM64: MiniHeader = MiniHeader {
     arch: Arch::Arm64,
     version: 3,
@@ -90,10 +99,19 @@ fn is_refused<S: Site>(rt: &impl Abort, alloc: Global, site: &mut S, fault: Open
     assert_eq!(rt; Core::open(alloc, site, "vmcore.0").err(), Some(fault));
 }
 
-// Opens a file of these bytes, which is refused.
-fn refuses(rt: &impl Abort, alloc: Global, bytes: Vec<u8>, fault: OpenFault) -> Result<(), Fail> {
+// Opens a file of this header page with these bytes at their places, which is refused.
+fn refuses(
+    rt: &impl Abort,
+    alloc: Global,
+    header: &MiniHeader,
+    marks: &[(usize, u8)],
+    len: usize,
+    fault: OpenFault,
+) -> Result<(), Fail>
+    requires { IsTrue (is_current header.now.arch header.now.version) }
+{
     let mut site = MemSite::new(alloc, 512, 512, Vec::new(alloc))?;
-    site.preset_file("vmcore.0", bytes)?;
+    site.preset_file("vmcore.0", file(alloc, header, marks, len)?)?;
     is_refused(rt, alloc, &mut site, fault);
     Ok(())
 }
@@ -115,10 +133,9 @@ fn refuses_changed(
     len: usize,
     fault: OpenFault,
 ) -> Result<(), Fail> {
-    let mut bytes = file(alloc, &RISCV, &SIX_PAGES, 32768)?;
-    mark(bytes.as_mut_slice(), &[(at, byte)]);
-    bytes.truncate(len);
-    refuses(rt, alloc, bytes, fault)
+    let [start, end, high_end, bits] = SIX_PAGES;
+    let marks = [start, end, high_end, bits, (at, byte)];
+    refuses(rt, alloc, &RISCV, &marks, len, fault)
 }
 
 #[test]
@@ -153,9 +170,14 @@ fn a_section_over_its_limit_is_refused(rt: HostRuntime) -> Result<(), Fail> {
 
 #[test]
 fn a_large_granule_is_refused(rt: HostRuntime) -> Result<(), Fail> {
-    let alloc = rt.alloc();
     let fault = OpenFault::Mini(MiniFault::BigGranule(1));
-    refuses(&rt, alloc, file(alloc, &ARM64, &[], 4096)?, fault)
+    refuses(&rt, rt.alloc(), &ARM64, &[], 4096, fault)
+}
+
+#[test]
+fn a_file_of_the_first_version_may_be_short(rt: HostRuntime) -> Result<(), Fail> {
+    let fault = OpenFault::Short(94208, 94207);
+    refuses(&rt, rt.alloc(), &LARGE_BITMAP, &FIRST_VERSION, 94207, fault)
 }
 
 // Looks at words of bits.
@@ -169,10 +191,18 @@ fn opens<S: Site>(rt: &impl Abort, alloc: Global, site: &mut S) -> Core {
     Core::open(alloc, site, "vmcore.0").expect(rt, "a good file")
 }
 
-// An open file of these bytes.
-fn open(rt: &impl Abort, alloc: Global, bytes: Vec<u8>) -> Result<Core, Fail> {
+// An open file of this header page with these bytes at their places.
+fn open(
+    rt: &impl Abort,
+    alloc: Global,
+    header: &MiniHeader,
+    marks: &[(usize, u8)],
+    len: usize,
+) -> Result<Core, Fail>
+    requires { IsTrue (is_current header.now.arch header.now.version) }
+{
     let mut site = MemSite::new(alloc, 512, 512, Vec::new(alloc))?;
-    site.preset_file("vmcore.0", bytes)?;
+    site.preset_file("vmcore.0", file(alloc, header, marks, len)?)?;
     Ok(opens(rt, alloc, &mut site))
 }
 
@@ -184,16 +214,33 @@ fn finds(rt: &impl Abort, core: &Core, places: &[(u64, Option<u64>)]) {
     }
 }
 
-// In a file of these bytes.
+// In a file of this header page with these bytes at their places.
 fn finds_in(
     rt: &impl Abort,
     alloc: Global,
-    bytes: Vec<u8>,
+    header: &MiniHeader,
+    marks: &[(usize, u8)],
+    len: usize,
     places: &[(u64, Option<u64>)],
-) -> Result<(), Fail> {
-    let core = open(rt, alloc, bytes)?;
+) -> Result<(), Fail>
+    requires { IsTrue (is_current header.now.arch header.now.version) }
+{
+    let core = open(rt, alloc, header, marks, len)?;
     finds(rt, &core, places);
     Ok(())
+}
+
+#[test]
+fn pages_stand_in_the_order_of_their_bits(rt: HostRuntime) -> Result<(), Fail> {
+    let places = [
+        (0x80000000, None),
+        (0x80001fff, Some(20480)),
+        (0x80002000, Some(24576)),
+        (0x80003000, None),
+        (0x80004000, Some(28672)),
+        (0x1000, None),
+    ];
+    finds_in(&rt, rt.alloc(), &RISCV, &SIX_PAGES, 32768, &places)
 }
 
 fn has_the_riscv_machines_bits(rt: &impl Abort, core: &Core) {
@@ -209,26 +256,15 @@ fn has_the_riscv_machines_bits(rt: &impl Abort, core: &Core) {
 }
 
 #[test]
-fn pages_stand_in_the_order_of_their_bits(rt: HostRuntime) -> Result<(), Fail> {
-    let alloc = rt.alloc();
-    let core = open(&rt, alloc, file(alloc, &RISCV, &SIX_PAGES, 32768)?)?;
+fn each_bit_has_a_page_of_the_range(rt: HostRuntime) -> Result<(), Fail> {
+    let core = open(&rt, rt.alloc(), &RISCV, &SIX_PAGES, 32768)?;
     has_the_riscv_machines_bits(&rt, &core);
-    let places = [
-        (0x80000000, None),
-        (0x80001fff, Some(20480)),
-        (0x80002000, Some(24576)),
-        (0x80003000, None),
-        (0x80004000, Some(28672)),
-        (0x1000, None),
-    ];
-    finds(&rt, &core, &places);
     Ok(())
 }
 
 // The section of ranges is then read as the bitmap.
 #[test]
 fn without_ranges_each_page_has_a_bit(rt: HostRuntime) -> Result<(), Fail> {
-    let alloc = rt.alloc();
     let header = MiniHeader {
         dumpavailsize: 0,
         ..RISCV
@@ -240,51 +276,34 @@ fn without_ranges_each_page_has_a_bit(rt: HostRuntime) -> Result<(), Fail> {
         (0x5f000, Some(28672)),
         (0x80001000, None),
     ];
-    finds_in(
-        &rt,
-        alloc,
-        file(alloc, &header, &SIX_PAGES, 32768)?,
-        &places,
-    )
+    finds_in(&rt, rt.alloc(), &header, &SIX_PAGES, 32768, &places)
 }
 
-// The first version of riscv has no field for ranges, so the bitmap follows the message buffer.
 #[test]
-fn the_first_version_has_no_ranges(rt: HostRuntime) -> Result<(), Fail> {
-    let alloc = rt.alloc();
-    let header = MiniHeader {
-        bitmapsize: 69632,
-        ..RISCV
-    };
-    let marks = [(24, 1), (8192 + 65536, 0x16)];
+fn the_first_version_of_riscv_has_no_ranges(rt: HostRuntime) -> Result<(), Fail> {
     let places = [
         (0x80001000, Some(81920)),
         (0x80002000, Some(86016)),
         (0x80003000, None),
         (0x80004000, Some(90112)),
     ];
-    finds_in(&rt, alloc, file(alloc, &header, &marks, 94208)?, &places)
+    finds_in(
+        &rt,
+        rt.alloc(),
+        &LARGE_BITMAP,
+        &FIRST_VERSION,
+        94208,
+        &places,
+    )
 }
 
-#[test]
-fn a_file_of_the_first_version_may_be_short(rt: HostRuntime) -> Result<(), Fail> {
-    let alloc = rt.alloc();
-    let header = MiniHeader {
-        bitmapsize: 69632,
-        ..RISCV
-    };
-    let marks = [(24, 1), (8192 + 65536, 0x16)];
-    let bytes = file(alloc, &header, &marks, 94207)?;
-    refuses(&rt, alloc, bytes, OpenFault::Short(94208, 94207))
-}
-
+// A field of ranges where a later version has it says nothing.
 #[test]
 fn amd64_has_ranges_from_its_third_version_on(rt: HostRuntime) -> Result<(), Fail> {
-    let alloc = rt.alloc();
+    let places = [(0x1000, Some(12288)), (0x2000, None)];
     for version in [1, 2] {
         let marks = [(24, version), (65, 16), (4096, 2)];
-        let places = [(0x1000, Some(12288)), (0x2000, None)];
-        finds_in(&rt, alloc, file(alloc, &AMD64, &marks, 16384)?, &places)?;
+        finds_in(&rt, rt.alloc(), &AMD64, &marks, 16384, &places)?;
     }
     Ok(())
 }
@@ -292,21 +311,15 @@ fn amd64_has_ranges_from_its_third_version_on(rt: HostRuntime) -> Result<(), Fai
 // The second version of arm64 has no flags, and its field of ranges counts.
 #[test]
 fn arm64_has_ranges_from_its_second_version_on(rt: HostRuntime) -> Result<(), Fail> {
-    let alloc = rt.alloc();
-    let mut bytes = file(alloc, &ARM64, &SIX_PAGES, 32768)?;
-    mark(bytes.as_mut_slice(), &[(24, 2)]);
-    finds_in(
-        &rt,
-        alloc,
-        bytes,
-        &[(0x80001000, Some(20480)), (0x1000, None)],
-    )
+    let [start, end, high_end, bits] = SIX_PAGES;
+    let marks = [start, end, high_end, bits, (24, 2)];
+    let places = [(0x80001000, Some(20480)), (0x1000, None)];
+    finds_in(&rt, rt.alloc(), &ARM64, &marks, 32768, &places)
 }
 
 // The last bit of the largest bitmap alone is set.
 #[test]
 fn the_largest_bitmap_is_taken(rt: HostRuntime) -> Result<(), Fail> {
-    let alloc = rt.alloc();
     let header = MiniHeader {
         bitmapsize: 1 << 26,
         pmapsize: 0,
@@ -314,12 +327,7 @@ fn the_largest_bitmap_is_taken(rt: HostRuntime) -> Result<(), Fail> {
     };
     let marks = [((1 << 26) + 4095, 0x80)];
     let places = [(4096 * ((1 << 29) - 1), Some((1 << 26) + 4096)), (0, None)];
-    finds_in(
-        &rt,
-        alloc,
-        file(alloc, &header, &marks, (1 << 26) + 8192)?,
-        &places,
-    )
+    finds_in(&rt, rt.alloc(), &header, &marks, (1 << 26) + 8192, &places)
 }
 
 // Opens the riscv machine's file where the call of this number fails.
