@@ -8,9 +8,9 @@ use Rattle.fd_pte.specs.Entry.{bytes_under}
 use Rattle.fd_walk.specs.PageTables.{PageTables, index_at, kind_of_entry}
 use Rattle.fd_walk.specs.Descent.{IsOnWay, IsInTable, IsReached}
 use Rattle.fd_walk.specs.Leaf.{leaf_of_kind, leaf_of_entry, table_of_kind}
-use Rattle.fd_walk.specs.Ranges.{leaves_in, last_tables_in}
+use Rattle.fd_walk.specs.Ranges.{leaves_in, last_tables_in, leaves_in-none, last_tables_in-none}
 use Rattle.fd_walk.proofs.Spans.{table_beside, way_in_table}
-use Rattle.fd_walk.proofs.RangeParts.{some_under, part_under, end_multiple, leaves_in-no_leaf, leaves_in-none, last_tables_in-parts, last_tables_in-none}
+use Rattle.fd_walk.proofs.RangeParts.{some_under, part_under, end_multiple, leaves_in-no_leaf, last_tables_in-parts}
 
 -- what an address is divided into by an entry above and by one below it
 above_by_index : (height va : ℕ) → va / bytes_under (height + 1) ≡ va / bytes_under height / 512

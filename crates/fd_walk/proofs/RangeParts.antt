@@ -197,11 +197,6 @@ leaves_in-no_leaf t at left height table bytes entry reached some is_part found 
     ++ leaves_in t (at + part_under height at left) (left - part_under height at left)) found
     ∙ ap (λ n. leaves_in t (at + n) (left - n)) (sym is_part)
 
--- no addresses have no leaves
-pub leaves_in-none : (t : PageTables) (at : ℕ) → leaves_in t at 0 ≡ []
-unfolding leaves_in
-leaves_in-none t at = refl
-
 -- an address at which a range goes on does not wrap, and where nothing is left it does not matter
 pub goes_on : {A : Type 0} (list_in : ℕ → ℕ → List A) → ((at : ℕ) → list_in at 0 ≡ []) → (at left next rest : ℕ)
     → at + left ≤ 2 ^ 64 → next ≡ at % 2 ^ 64 → rest ≡ left → list_in at left ≡ list_in next rest
@@ -277,7 +272,3 @@ last_tables_in-parts t at left height table bytes entry found reached some all_b
     ∙ filter_map-parts (table_part t at) (table_part t (at + part)) at part rest is_part.some none same
     ∙ ap (λ o. option_to_list o ++ filter_map (table_part t (at + part)) (range_with_len (at + part) rest)) head
     ∙ ap (λ n. option_to_list found ++ filter_map (table_part t (at + n)) (range_with_len (at + n) (left - n))) (sym all_bytes)
-
-pub last_tables_in-none : (t : PageTables) (at : ℕ) → last_tables_in t at 0 ≡ []
-unfolding last_tables_in
-last_tables_in-none t at = refl

@@ -1,5 +1,5 @@
 -- What the addresses of a range are mapped by: `bytes` addresses from `from` on.
-use Rattle.std.specs.Prelude.{◌≡◌, ℕ, Option, Some, None, List, ◌==◌, if◌then◌else◌, max, min, ◌+◌, ◌-◌, ◌%◌, ◌^◌, ◌≤◌}
+use Rattle.std.specs.Prelude.{◌≡◌, ℕ, Option, Some, None, List, [], ◌==◌, if◌then◌else◌, max, min, ◌+◌, ◌-◌, ◌%◌, ◌^◌, ◌≤◌}
 use Rattle.std.specs.List.{filter_map, range_with_len}
 use Rattle.std.specs.Option.{option_and_then}
 use Rattle.fd_pte.specs.Entry.{bytes_under}
@@ -23,6 +23,11 @@ unfoldable pub leaves_in : PageTables → (from bytes : ℕ) → List Leaf
 leaves_in t from bytes =
     filter_map (λ va. option_and_then (leaf_part from (from + bytes) va) (leaf_at t va)) (range_with_len from bytes)
 
+-- at no address there is none
+pub leaves_in-none : (t : PageTables) (at : ℕ) → leaves_in t at 0 ≡ []
+unfolding leaves_in
+leaves_in-none t at = λ i. []
+
 -- the last-level table of an entry of height 1, if that begins at this address, or the range does within it
 abbrev pub table_part : PageTables → (from va : ℕ) → Option ℕ
 table_part t from va = if max from (first_under 1 va) == va then last_table t va else None
@@ -30,6 +35,10 @@ table_part t from va = if max from (first_under 1 va) == va then last_table t va
 -- the last-level tables that the entries of height 1 in a range name, in the order of these entries
 unfoldable pub last_tables_in : PageTables → (from bytes : ℕ) → List ℕ
 last_tables_in t from bytes = filter_map (table_part t from) (range_with_len from bytes)
+
+pub last_tables_in-none : (t : PageTables) (at : ℕ) → last_tables_in t at 0 ≡ []
+unfolding last_tables_in
+last_tables_in-none t at = λ i. []
 
 -- what is left of a range: the walk for its first address comes to its table, at this height or above
 pub record IsRest (t : PageTables) (lowest : ℕ) (rest : Rest) : Type 0 where

@@ -1,39 +1,33 @@
 //! The leaves of a range of addresses.
-ghost use Rattle.std.specs.Prelude.{◌≡◌, ◌≤◌, ◌<◌, ◌%◌, ◌+◌, ◌-◌, ◌^◌, ◌++◌};
+ghost use Rattle.std.specs.Prelude.{◌≡◌, ◌≤◌, ◌<◌, ◌%◌, ◌+◌, ◌^◌, ◌++◌};
 ghost use Rattle.std.specs.Iterator.{YieldsFirst, item_count};
 ghost use Rattle.std.specs.Option.{option_to_list};
 ghost use Rattle.fd_walk.specs.PageTables.{tables_of};
 ghost use Rattle.fd_walk.specs.Ranges.{leaves_in, IsRest};
 
 use crate::address::bytes_under;
+use crate::found::{Finder, Finds, First};
 use crate::leaf::Leaf;
 use crate::rest::Rest;
 use crate::walker::Walker;
 use fd_image::Memory;
 use fd_pte::Entry;
-use std::marker::{Model, PhantomData};
+use std::marker::Model;
 
 /// The leaves that meet a range, by rising address, each cut to the range. Contracts see the list of
 /// those that are left.
 #[derive(Drop)]
 pub struct Leaves<'a, M: Memory, E: Entry, const LEVELS: usize> {
-    mem: &'a M,
-    root: u64,
-    rest: Rest,
-    entry: PhantomData<E>,
+    finder: Finder<'a, M, Walker<E, LEVELS>, Leaf>,
 }
 
 impl<'a, M: Memory, E: Entry, const LEVELS: usize> Model for Leaves<'a, M, E, LEVELS> {
     ghost use Rattle.std.specs.Prelude.{List};
     ghost use Rattle.fd_walk.specs.declared.leaf.Leaf.{Leaf};
-    ghost use Rattle.fd_walk.specs.PageTables.{tables_of};
-    ghost use Rattle.fd_walk.specs.Ranges.{leaves_in, IsRest};
 
     ghost Value = { List Leaf };
 
-    ghost view = { λ it. leaves_in (tables_of (M.word_at it.mem.now) E.kind_of LEVELS it.root) it.rest.at it.rest.left };
-
-    ghost invariant = { λ it. IsRest (tables_of (M.word_at it.mem.now) E.kind_of LEVELS it.root) 0 it.rest };
+    ghost view = { λ it. it.finder };
 }
 
 impl<'a, M: Memory, E: Entry, const LEVELS: usize> Iterator for Leaves<'a, M, E, LEVELS> {
@@ -44,25 +38,24 @@ impl<'a, M: Memory, E: Entry, const LEVELS: usize> Iterator for Leaves<'a, M, E,
     ghost remaining = { item_count (λ rest. rest) };
 
     fn next(&mut self) -> Option<Leaf> {
-        let mut rest = self.rest;
-        while rest.left > 0 {
-            let part = Walker::<E, LEVELS>::leaf_part(self.mem, self.root, rest);
-            rest = part.rest;
-            if let Some(leaf) = part.leaf {
-                self.rest = rest;
-                return Some(leaf);
-            }
-        }
-        self.rest = rest;
-        None
+        self.finder.take_first()
     }
 }
 
-/// A range's first leaf, if the range begins with one, and the range behind the entry at its first address.
-#[derive(Clone, Copy)]
-struct LeafPart {
-    leaf: Option<Leaf>,
-    rest: Rest,
+impl<E: Entry, const LEVELS: usize> Finds<Leaf> for Walker<E, LEVELS> {
+    ghost tables = { λ word_at root. tables_of word_at E.kind_of LEVELS root };
+
+    ghost found_in = { leaves_in };
+
+    ghost lowest = { 0 };
+
+    fn first<M: Memory>(mem: &M, root: u64, rest: Rest) -> First<Leaf> {
+        Self::first_leaf(mem, root, rest)
+    }
+
+    ghost use Rattle.fd_walk.specs.Ranges.{leaves_in-none};
+
+    ghost none = { leaves_in-none };
 }
 
 impl<E: Entry, const LEVELS: usize> Walker<E, LEVELS> {
@@ -80,26 +73,23 @@ impl<E: Entry, const LEVELS: usize> Walker<E, LEVELS> {
         ensures { result ≡ leaves_in (tables_of (M.word_at mem.now) E.kind_of LEVELS root) from bytes }
     {
         Leaves {
-            mem,
-            root,
-            rest: Self::range(mem, root, from, bytes),
-            entry: PhantomData,
+            finder: Finder::new(mem, root, Self::range(mem, root, from, bytes)),
         }
     }
 
-    /// Takes from a range the addresses that share an entry with its first.
-    fn leaf_part<M: Memory>(mem: &M, root: u64, rest: Rest) -> LeafPart
+    // The leaf of a range's first entry.
+    fn first_leaf<M: Memory>(mem: &M, root: u64, rest: Rest) -> First<Leaf>
         requires rest { IsRest (tables_of (M.word_at mem.now) E.kind_of LEVELS root) 0 rest }
         requires some { 0 < rest.left }
         ensures shorter { result.rest.left < rest.left }
         ensures rest { IsRest (tables_of (M.word_at mem.now) E.kind_of LEVELS root) 0 result.rest }
         ensures leaves { let tables = tables_of (M.word_at mem.now) E.kind_of LEVELS root in
-            leaves_in tables rest.at rest.left ≡ option_to_list result.leaf ++ leaves_in tables result.rest.at result.rest.left }
+            leaves_in tables rest.at rest.left ≡ option_to_list result.found ++ leaves_in tables result.rest.at result.rest.left }
     {
         let part = Self::part(mem, root, rest, 0);
         match Self::leaf(part.entry, part.height) {
-            Some(found) => LeafPart {
-                leaf: Some(Leaf {
+            Some(found) => First {
+                found: Some(Leaf {
                     va: rest.at,
                     pa: found.address + rest.at % bytes_under(part.height),
                     size: part.bytes,
@@ -107,8 +97,8 @@ impl<E: Entry, const LEVELS: usize> Walker<E, LEVELS> {
                 }),
                 rest: part.rest,
             },
-            None => LeafPart {
-                leaf: None,
+            None => First {
+                found: None,
                 rest: Self::past_absent(mem, root, part.rest, 0),
             },
         }

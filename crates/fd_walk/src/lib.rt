@@ -6,6 +6,7 @@
 
 mod address;
 mod directory;
+mod found;
 mod leaf;
 mod leaves;
 mod rest;

@@ -6,34 +6,27 @@ ghost use Rattle.fd_walk.specs.PageTables.{tables_of};
 ghost use Rattle.fd_walk.specs.Leaf.{table_of_kind};
 ghost use Rattle.fd_walk.specs.Ranges.{last_tables_in, IsRest};
 
+use crate::found::{Finder, Finds, First};
 use crate::rest::Rest;
 use crate::walker::Walker;
 use fd_image::Memory;
 use fd_pte::{Entry, Kind};
-use std::marker::{Model, PhantomData};
+use std::marker::Model;
 
 /// The addresses of the last-level tables that the entries of height 1 in a range name, in the order
 /// of these entries, whether or not they lie in the memory. Contracts see the list of those that are
 /// left.
 #[derive(Drop)]
 pub struct Tables<'a, M: Memory, E: Entry, const LEVELS: usize> {
-    mem: &'a M,
-    root: u64,
-    rest: Rest,
-    entry: PhantomData<E>,
+    finder: Finder<'a, M, Walker<E, LEVELS>, u64>,
 }
 
 impl<'a, M: Memory, E: Entry, const LEVELS: usize> Model for Tables<'a, M, E, LEVELS> {
     ghost use Rattle.std.specs.Prelude.{ℕ, List};
-    ghost use Rattle.fd_walk.specs.PageTables.{tables_of};
-    ghost use Rattle.fd_walk.specs.Leaf.{table_of_kind};
-    ghost use Rattle.fd_walk.specs.Ranges.{last_tables_in, IsRest};
 
     ghost Value = { List ℕ };
 
-    ghost view = { λ it. last_tables_in (tables_of (M.word_at it.mem.now) E.kind_of LEVELS it.root) it.rest.at it.rest.left };
-
-    ghost invariant = { λ it. IsRest (tables_of (M.word_at it.mem.now) E.kind_of LEVELS it.root) 1 it.rest };
+    ghost view = { λ it. it.finder };
 }
 
 impl<'a, M: Memory, E: Entry, const LEVELS: usize> Iterator for Tables<'a, M, E, LEVELS> {
@@ -44,25 +37,24 @@ impl<'a, M: Memory, E: Entry, const LEVELS: usize> Iterator for Tables<'a, M, E,
     ghost remaining = { item_count (λ rest. rest) };
 
     fn next(&mut self) -> Option<u64> {
-        let mut rest = self.rest;
-        while rest.left > 0 {
-            let part = Walker::<E, LEVELS>::table_part(self.mem, self.root, rest);
-            rest = part.rest;
-            if let Some(table) = part.table {
-                self.rest = rest;
-                return Some(table);
-            }
-        }
-        self.rest = rest;
-        None
+        self.finder.take_first()
     }
 }
 
-/// A range's first table, if the range begins with one, and the range behind the entry at its first address.
-#[derive(Clone, Copy)]
-struct TablePart {
-    table: Option<u64>,
-    rest: Rest,
+impl<E: Entry, const LEVELS: usize> Finds<u64> for Walker<E, LEVELS> {
+    ghost tables = { λ word_at root. tables_of word_at E.kind_of LEVELS root };
+
+    ghost found_in = { last_tables_in };
+
+    ghost lowest = { 1 };
+
+    fn first<M: Memory>(mem: &M, root: u64, rest: Rest) -> First<u64> {
+        Self::first_table(mem, root, rest)
+    }
+
+    ghost use Rattle.fd_walk.specs.Ranges.{last_tables_in-none};
+
+    ghost none = { last_tables_in-none };
 }
 
 impl<E: Entry, const LEVELS: usize> Walker<E, LEVELS> {
@@ -80,31 +72,28 @@ impl<E: Entry, const LEVELS: usize> Walker<E, LEVELS> {
         ensures { result ≡ last_tables_in (tables_of (M.word_at mem.now) E.kind_of LEVELS root) from bytes }
     {
         Tables {
-            mem,
-            root,
-            rest: Self::range(mem, root, from, bytes),
-            entry: PhantomData,
+            finder: Finder::new(mem, root, Self::range(mem, root, from, bytes)),
         }
     }
 
-    /// Takes from a range the addresses that share an entry of height 1 or above with its first.
-    fn table_part<M: Memory>(mem: &M, root: u64, rest: Rest) -> TablePart
+    // The table that a range's first entry of height 1 or above names.
+    fn first_table<M: Memory>(mem: &M, root: u64, rest: Rest) -> First<u64>
         requires rest { IsRest (tables_of (M.word_at mem.now) E.kind_of LEVELS root) 1 rest }
         requires some { 0 < rest.left }
         ensures shorter { result.rest.left < rest.left }
         ensures rest { IsRest (tables_of (M.word_at mem.now) E.kind_of LEVELS root) 1 result.rest }
         ensures tables { let tables = tables_of (M.word_at mem.now) E.kind_of LEVELS root in
             last_tables_in tables rest.at rest.left
-            ≡ option_to_list result.table ++ last_tables_in tables result.rest.at result.rest.left }
+            ≡ option_to_list result.found ++ last_tables_in tables result.rest.at result.rest.left }
     {
         let part = Self::part(mem, root, rest, 1);
         match table_of_kind(Self::kind(part.entry, part.height)) {
-            Some(table) => TablePart {
-                table: Some(table),
+            Some(table) => First {
+                found: Some(table),
                 rest: part.rest,
             },
-            None => TablePart {
-                table: None,
+            None => First {
+                found: None,
                 rest: Self::past_absent(mem, root, part.rest, 1),
             },
         }

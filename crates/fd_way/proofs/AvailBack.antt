@@ -15,8 +15,9 @@ use Rattle.fd_mini.specs.Places.{rounded_up}
 use Rattle.fd_vmcore.specs.Ranges.{pair_at, goes_on, pairs_in}
 use Rattle.fd_dump.specs.Minidump.{filled, avail_bytes}
 use Rattle.fd_dump.proofs.Sizes.{length-filled, length-avail}
+use Rattle.fd_dump.proofs.Stands.{Stands, Stands-inner}
 use Rattle.fd_way.proofs.Limits.{IsRange, pair_whole, pair_after}
-use Rattle.fd_way.proofs.Stands.{Stands, Stands-inner, Stands-first, Stands-last, Stands-piece, length-pieces, u64_le_at-Stands}
+use Rattle.fd_way.proofs.Pieces.{Stands-first, Stands-last, Stands-piece, length-pieces, u64_le_at-Stands}
 
 -- the bytes of a pair
 abbrev pair_bytes : ℕ × ℕ → List ℕ

@@ -14,8 +14,8 @@ use Rattle.fd_image.proofs.Pages.{page_begins, page_ends}
 use Rattle.fd_image.proofs.Valid.{rules_kept, passes, segment_found}
 use Rattle.fd_bitmap.specs.Bits.{set_count}
 use Rattle.fd_dump.specs.Dumped.{is_available, is_reached, is_wanted, is_mapped, dumps_last_tables, is_last_table, is_dumped}
+use Rattle.fd_dump.proofs.Stands.{Stands}
 use Rattle.fd_way.proofs.Limits.{IsInSegment, pair_inside}
-use Rattle.fd_way.proofs.Stands.{Stands}
 
 -- where some element passes, one is found
 found_step : {X : Type 0} (test : Bool) (x : X) (later : Option X) (any : Bool) → (test || any) ≡ true → (any ≡ true → (y : X) × (later ≡ Some y)) → (y : X) × (cond test (Some x) later ≡ Some y)

@@ -7,9 +7,8 @@ mod Limits
 mod Lines
 mod Located
 mod Opening
+mod Pieces
 pub mod SameReads
-mod SectionPlaces
-mod Stands
 mod TableEntries
 mod Translated
 mod Units

@@ -20,11 +20,11 @@ use Rattle.fd_vmcore.specs.Sections.{has_bit, offset_of_bit, page_offset}
 use Rattle.fd_dump.specs.Dumped.{is_available, is_dumped, pages_with_bits, dumped_bits}
 use Rattle.fd_dump.specs.Minidump.{mini_header_of, memory_of, minidump_of}
 use Rattle.fd_dump.proofs.Sizes.{length-bits}
+use Rattle.fd_dump.proofs.Stands.{Stands, Stands-inner}
 use Rattle.fd_way.proofs.DumpedPages.{IsBacked, backed, dumped_available, page_of-start, Stands-dumped}
 use Rattle.fd_way.proofs.Limits.{IsRange, pair_whole, windows_of}
 use Rattle.fd_way.proofs.Opening.{sections_of, clear_bits}
-use Rattle.fd_way.proofs.SectionPlaces.{Stands-memory}
-use Rattle.fd_way.proofs.Stands.{Stands, Stands-inner}
+use Rattle.fd_dump.proofs.SectionPlaces.{Stands-memory}
 
 -- the pages of a pair are among the pages of all
 second_passes : (a b : Bool) → b ≡ true → (a || b) ≡ true
@@ -141,7 +141,7 @@ module _ (m : MachineImage) (valid : IsValid m) where
         whole = b.whole;
         stands = Stands-inner b.page (memory_of m) (minidump_of m) (4096 * set_count (take bit (dumped_bits m))) start (start + 4096 * set_count (take bit (dumped_bits m))) refl
             (Stands-dumped m valid (pages_with_bits m) bit 0 b.page has.within (ap (is_dumped m) has.address ∙ dumped) (ap (page_of m) has.address ∙ b.is))
-            (Stands-memory m (windows_of m valid));
+            (Stands-memory m valid);
       }
 
   clear_bit : (pa bit : ℕ) → HasBit pa bit → is_dumped m (page_start pa) ≡ false → IsNotDumped pa

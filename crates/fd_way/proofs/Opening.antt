@@ -17,20 +17,20 @@ use Rattle.fd_mini.specs.Places.{rounded_up, places_of}
 use Rattle.fd_mini.specs.Read.{header_in}
 use Rattle.fd_mini.specs.Readable.{IsReadable}
 use Rattle.fd_mini.specs.declared.header.MiniHeader.{MiniHeader}
-use Rattle.fd_mini.proofs.Layouts.{current_has_dumpavailsize, current_is_known}
+use Rattle.fd_mini.proofs.Layouts.{current_has_dumpavailsize, current_is_known, length-page_of}
 use Rattle.fd_vmcore.specs.Ranges.{pairs_in, ranges_of, pages_in}
 use Rattle.fd_vmcore.specs.Sections.{Sections, bits_in, pages_end, long_enough, by_pages, bad_range, by_ranges, by_header, opened}
 use Rattle.fd_vmcore.specs.declared.open.OpenFault.{OpenFault}
 use Rattle.fd_dump.specs.Dumped.{pages_with_bits, dumped_bits}
-use Rattle.fd_dump.specs.Minidump.{bitmap_bytes, mini_header_of, minidump_of}
+use Rattle.fd_dump.specs.Minidump.{avail_bytes, bitmap_bytes, filled, mini_header_of, minidump_of}
 use Rattle.fd_dump.proofs.Limits.{small, pages_few}
 use Rattle.fd_dump.proofs.Sizes.{length-avail, length-bits}
+use Rattle.fd_dump.proofs.Stands.{range-Stands}
 use Rattle.fd_way.proofs.AvailBack.{pairs_back, none_bad}
 use Rattle.fd_way.proofs.BitmapBits.{bits_of-filled}
 use Rattle.fd_way.proofs.DumpedPages.{length-memory}
 use Rattle.fd_way.proofs.Limits.{AreWindows, windows_of, pair_whole}
-use Rattle.fd_way.proofs.SectionPlaces.{length-ranges, length-bitmap, begins, Stands-ranges, Stands-bitmap, length-file, ranges, bitmap}
-use Rattle.fd_way.proofs.Stands.{range-Stands}
+use Rattle.fd_dump.proofs.SectionPlaces.{length-ranges, length-bitmap, Stands-header, Stands-ranges, Stands-bitmap, length-file}
 
 -- that the page of each readable header is read as that header
 abbrev pub AreReadBack : Type 0
@@ -78,6 +78,15 @@ module _ (m : MachineImage) (valid : IsValid m) where
   abbrev header : MiniHeader
   header = mini_header_of m
 
+  abbrev ranges : List ℕ
+  ranges = filled (avail_bytes m.avail)
+
+  abbrev bitmap : List ℕ
+  bitmap = filled (bitmap_bytes (dumped_bits m))
+
+  begins : take 4096 file ≡ mini.page_of header
+  begins = range-Stands (mini.page_of header) file 0 4096 (Stands-header m valid) (length-page_of header)
+
   -- the sizes are within the reader's limits
   ranges_short : header.dumpavailsize ≤ 2 ^ 20
   ranges_short = omega (arith, length-avail m.avail, small m valid)
@@ -114,8 +123,8 @@ module _ (m : MachineImage) (valid : IsValid m) where
   ranges_back : ranges_of file header ≡ m.avail
   ranges_back =
       ap (λ (section : List ℕ). pairs_in section header.dumpavailsize)
-      (range-Stands (ranges m windows) file (places_of header).avail header.dumpavailsize (Stands-ranges m windows) (length-ranges m windows))
-      ∙ ap (pairs_in (ranges m windows)) (sym (length-ranges m windows))
+      (range-Stands ranges file (places_of header).avail header.dumpavailsize (Stands-ranges m valid) (length-ranges m valid))
+      ∙ ap (pairs_in ranges) (sym (length-ranges m valid))
       ∙ pairs_back m.avail valid.typed.avail (λ k within. omega (arith, pair_whole m valid k within (0, 0)))
 
   some_ranges : (header.dumpavailsize == 0) ≡ false
@@ -133,19 +142,19 @@ module _ (m : MachineImage) (valid : IsValid m) where
   -- the bits
   bits_back : bits_in file header ≡ dumped_bits m ++ clear_bits m
   bits_back =
-      ap bits_of (range-Stands (bitmap m windows) file (places_of header).bitmap header.bitmapsize (Stands-bitmap m windows) (length-bitmap m windows))
+      ap bits_of (range-Stands bitmap file (places_of header).bitmap header.bitmapsize (Stands-bitmap m valid) (length-bitmap m valid))
       ∙ bits_of-filled (dumped_bits m) (rounded_up (length (bitmap_bytes (dumped_bits m))) - length (bitmap_bytes (dumped_bits m)))
 
   -- the file ends where its dumped pages do
   ends : pages_end (sections_of m) ≡ length file
   ends =
-      omega (arith, length-file m windows, length-memory m valid (pages_with_bits m), set_count-append (dumped_bits m) (clear_bits m), set_count-clear (clear_count m))
+      omega (arith, length-file m valid, length-memory m valid (pages_with_bits m), set_count-append (dumped_bits m) (clear_bits m), set_count-clear (clear_count m))
 
   pub opens : AreReadBack → opened file ≡ Ok (sections_of m)
   unfolding opened
   opens back =
-      let first : header_in (take 4096 file) ≡ Ok header = ap header_in (begins m windows) ∙ back header readable in
-      enough file 4096 (by_header file (header_in (take 4096 file))) (omega (arith, length-file m windows))
+      let first : header_in (take 4096 file) ≡ Ok header = ap header_in (begins) ∙ back header readable in
+      enough file 4096 (by_header file (header_in (take 4096 file))) (omega (arith, length-file m valid))
       ∙ ap (by_header file) first
       ∙ enough file (places_of header).pages (by_ranges file header (bad_range file header)) (omega (arith, ends))
       ∙ ap (by_ranges file header) none_is_bad

@@ -40,9 +40,9 @@ use Rattle.fd_dump.specs.Translation.{is_in_kernel_window, is_in_direct_map, by_
 use Rattle.fd_way.proofs.Limits.{windows_of}
 use Rattle.fd_way.proofs.Located.{IsDumpedAt, IsNotDumped, located}
 use Rattle.fd_way.proofs.Opening.{AreReadBack, sections_of, opens}
-use Rattle.fd_way.proofs.Stands.{get_or-Stands}
 use Rattle.fd_way.proofs.Translated.{by_directory_is}
 use Rattle.fd_way.proofs.Units.{entry_height, same_window}
+use Rattle.fd_way.proofs.Pieces.{get_or-Stands}
 
 -- in which order the windows are looked at makes no difference, since they are apart
 either_order : {X : Type 0} (first window direct : Bool) (x x' y other : X) → (window ≡ true → direct ≡ false) → (window ≡ true → x ≡ x')

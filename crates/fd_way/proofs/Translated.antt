@@ -32,14 +32,15 @@ use Rattle.fd_kvm.specs.Place.{by_table_entry, table_entry, by_table, by_entry, 
 use Rattle.fd_dump.specs.Dumped.{tables_in, dumps_last_tables, is_dumped}
 use Rattle.fd_dump.specs.Minidump.{form_of, entry_count, directory_of, mini_header_of, minidump_of}
 use Rattle.fd_dump.specs.Translation.{by_leaf, is_table_missing, by_tables}
+use Rattle.fd_dump.proofs.Stands.{Stands, Stands-inner}
 use Rattle.fd_way.proofs.ImageWords.{word_short, word_of-page}
 use Rattle.fd_way.proofs.Limits.{windows_of}
 use Rattle.fd_way.proofs.Located.{IsDumpedAt, IsNotDumped, located}
 use Rattle.fd_way.proofs.Opening.{sections_of}
-use Rattle.fd_way.proofs.SectionPlaces.{Stands-directory}
-use Rattle.fd_way.proofs.Stands.{Stands, Stands-inner, Stands-piece, u64_le_at-Stands, u64_le_at-within}
+use Rattle.fd_dump.proofs.SectionPlaces.{Stands-directory}
 use Rattle.fd_way.proofs.TableEntries.{IsLeafOf, leaf_at-lowest, leaf_at-no_table, none_below, leaf_below-same, leaf_found, entry_short}
 use Rattle.fd_way.proofs.Units.{some_levels, most_levels, entry_height, placed_kind, zero_absent, IsUnitLeaf, expanded, unit_start, IsInUnit, in_unit, place_in_leaf}
+use Rattle.fd_way.proofs.Pieces.{Stands-piece, u64_le_at-Stands, u64_le_at-within}
 
 -- a table that isn't dumped is missing where tables ought to be dumped
 missing_nowhere : (m : MachineImage) (last : Option ℕ) → dumps_last_tables m.arch ≡ false → is_table_missing m last ≡ false
@@ -248,7 +249,7 @@ module _ (m : MachineImage) (valid : IsValid m) where
         ap (λ h. u64_le_at file ((places_of header).directory + 8 * ((va - m.windows.kernbase) / bytes_under h))) (entry_height m)
         ∙ u64_le_at-Stands file ((places_of header).directory + 8 * index) (entry index)
         (Stands-inner (to_le_bytes w64 (entry index)) (directory_of m) file (8 * index) (places_of header).directory
-        ((places_of header).directory + 8 * index) refl piece (Stands-directory m (windows_of m valid)))
+        ((places_of header).directory + 8 * index) refl piece (Stands-directory m valid))
         agrees.fits
 
     pub by_directory_is : index < entry_count m → by_directory file sections va ≡ by_tables m va

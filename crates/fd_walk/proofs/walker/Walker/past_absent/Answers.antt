@@ -1,9 +1,9 @@
 -- The absent entries have nothing, and the walk goes on in their table or from the topmost.
 use Rattle.std.proofs.Common.{◌∙◌, ℕ, ◌+◌, ◌-◌, ◌*◌, ◌%◌, ◌^◌, min, refl, ap, arith}
 use Rattle.fd_walk.specs.PageTables.{tables_of}
-use Rattle.fd_walk.specs.Ranges.{leaves_in, last_tables_in}
+use Rattle.fd_walk.specs.Ranges.{leaves_in, last_tables_in, leaves_in-none, last_tables_in-none}
 use Rattle.fd_walk.proofs.Rests.{IsRest-after}
-use Rattle.fd_walk.proofs.RangeParts.{leaves_in-none, last_tables_in-none, goes_on}
+use Rattle.fd_walk.proofs.RangeParts.{goes_on}
 use Rattle.fd_walk.proofs.AbsentEntries.{leaves_in-absent, last_tables_in-absent}
 use Rattle.fd_walk.proofs.walker.Walker.past_absent.Goals as goal
 

@@ -1,9 +1,9 @@
 -- What the walk ended at is all that the first part of the range gives.
 use Rattle.std.proofs.Common.{◌∙◌, ◌∷◌, ◌+◌, ◌-◌, ap, sym, arith}
 use Rattle.fd_walk.specs.PageTables.{tables_of}
-use Rattle.fd_walk.specs.Ranges.{leaves_in}
-use Rattle.fd_walk.proofs.RangeParts.{part_at, leaves_in-leaf, leaves_in-no_leaf, leaves_in-none, goes_on}
-use Rattle.fd_walk.proofs.walker.Walker.leaf_part.Goals as goal
+use Rattle.fd_walk.specs.Ranges.{leaves_in, leaves_in-none}
+use Rattle.fd_walk.proofs.RangeParts.{part_at, leaves_in-leaf, leaves_in-no_leaf, goes_on}
+use Rattle.fd_walk.proofs.walker.Walker.first_leaf.Goals as goal
 
 pub returns-in-Some-clause-leaves : goal.returns-in-Some-clause-leaves
 returns-in-Some-clause-leaves g c =

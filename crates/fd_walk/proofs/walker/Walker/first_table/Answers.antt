@@ -2,9 +2,9 @@
 use Rattle.std.proofs.Common.{◌∙◌, ◌∷◌, ◌+◌, ◌-◌, Some, None, refl, ap, arith}
 use Rattle.fd_walk.specs.PageTables.{tables_of}
 use Rattle.fd_walk.specs.Leaf.{table_of_kind}
-use Rattle.fd_walk.specs.Ranges.{last_tables_in}
-use Rattle.fd_walk.proofs.RangeParts.{last_tables_in-parts, last_tables_in-none, goes_on}
-use Rattle.fd_walk.proofs.walker.Walker.table_part.Goals as goal
+use Rattle.fd_walk.specs.Ranges.{last_tables_in, last_tables_in-none}
+use Rattle.fd_walk.proofs.RangeParts.{last_tables_in-parts, goes_on}
+use Rattle.fd_walk.proofs.walker.Walker.first_table.Goals as goal
 
 pub returns-in-Some-clause-tables : goal.returns-in-Some-clause-tables
 returns-in-Some-clause-tables g c =
