@@ -1,12 +1,12 @@
 -- What holds of every command's row.
-use Rattle.std.proofs.Common.{◌≡◌, ◌⊎◌, inl, inr, ℕ, List, [], length, Option, Some, None, refl, ◌∙◌, ap, subst}
+use Rattle.std.proofs.Common.{◌≡◌, ◌⊎◌, inl, inr, [], Option, Some, None, refl, ◌∙◌, ap, subst}
 use Rattle.fd_site.specs.Seen.{Seen}
 use Rattle.fd_dump.specs.Header.{header_of}
 use Rattle.fd_dump.specs.Minidump.{minidump_of}
 use Rattle.fd_part.proofs.WholeDump.{IsBegunDump-whole}
 use Rattle.fd_cli.specs.Ending.{Ends, answer_status}
 use Rattle.fd_cli.specs.Laws.{IsSound, OnlyDoneOrFailedAdds}
-use Rattle.fd_cli.specs.Row.{Added, Grew, Outside, Work, nothing}
+use Rattle.fd_cli.specs.Row.{Added, Grew, Work, nothing}
 use Rattle.fd_cli.specs.Rows.{row_of}
 use Rattle.fd_cli.specs.Rows.Dump.{HasBegun, MayHaveBegun, dump_row}
 use Rattle.fd_cli.specs.declared.command.Command.{Command}
