@@ -1,8 +1,6 @@
 -- What holds of every command's row.
 use Rattle.std.proofs.Common.{◌≡◌, ◌⊎◌, inl, inr, ℕ, List, [], length, Option, Some, None, refl, ◌∙◌, ap, subst}
-use Rattle.fd_bytes.specs.declared.arch.Arch.{Arch}
 use Rattle.fd_site.specs.Seen.{Seen}
-use Rattle.fd_site.proofs.Begun.{IsBegun-whole}
 use Rattle.fd_dump.specs.Header.{header_of}
 use Rattle.fd_dump.specs.Minidump.{minidump_of}
 use Rattle.fd_part.proofs.WholeDump.{IsBegunDump-whole}
@@ -11,7 +9,6 @@ use Rattle.fd_cli.specs.Laws.{IsSound, OnlyDoneOrFailedAdds}
 use Rattle.fd_cli.specs.Row.{Added, Grew, Outside, Work, nothing}
 use Rattle.fd_cli.specs.Rows.{row_of}
 use Rattle.fd_cli.specs.Rows.Dump.{HasBegun, MayHaveBegun, dump_row}
-use Rattle.fd_cli.specs.Rows.Image.{image_row}
 use Rattle.fd_cli.specs.declared.command.Command.{Command}
 use Rattle.fd_cli.specs.declared.command.Command.TheVariants as command
 use Rattle.fd_cli.specs.declared.source.Source.{Source}
@@ -20,7 +17,6 @@ use Rattle.fd_cli.proofs.Outcomes.{IsWhole, judge_adds_nothing, refused_adds_not
 -- a command may end without a word
 pub may_be_silent : (command : Option Command) (found : Seen) → (row_of command).Says found []
 may_be_silent None found = refl
-may_be_silent (Some (command.Image arch number file)) found = refl
 may_be_silent (Some command.Judge) found = refl
 may_be_silent (Some (command.Dump source)) found = refl
 may_be_silent (Some (command.Read name va count)) found = refl
@@ -40,19 +36,9 @@ dump_leaves source found w does = elim (refused_or_whole source found w does) [
   | inr whole ↦ inr (whole.image, whole.given, begun source found w whole)
 ]
 
--- a whole file was begun
-image_leaves : (arch : Arch) (number : ℕ) (file : List ℕ) (found : Seen) (w : Work) → (image_row arch number file).Does found w
-    → (image_row arch number file).Leaves found w.added
-image_leaves arch number file found w writes = inr (record {
-  begun = record { planned = w.added.entries; is_file = writes.is_file; begun = IsBegun-whole w.added.entries };
-  alone = writes.alone;
-})
-
 -- each row is sound
 pub sound : (command : Option Command) → IsSound (row_of command)
 sound None = record { whole = λ found w does. ap (λ x. x.added) does; starved = λ found added is. is; silent = λ found. refl }
-sound (Some (command.Image arch number file)) =
-    record { whole = image_leaves arch number file; starved = λ found added is. inl is; silent = λ found. refl }
 sound (Some command.Judge) = record { whole = judge_adds_nothing; starved = λ found added is. is; silent = λ found. refl }
 sound (Some (command.Dump source)) = record { whole = dump_leaves source; starved = λ found added is. inl is; silent = λ found. refl }
 sound (Some (command.Read name va count)) =
@@ -61,7 +47,6 @@ sound (Some (command.Read name va count)) =
 -- a command whose work adds something ends with 0
 adds_with_zero : (command : Option Command) (found : Seen) (w : Work) → (row_of command).Does found w → (answer_status w.answer ≡ 0) ⊎ (w.added ≡ nothing)
 adds_with_zero None found w does = inr (ap (λ x. x.added) does)
-adds_with_zero (Some (command.Image arch number file)) found w does = inl (ap answer_status does.answer)
 adds_with_zero (Some command.Judge) found w does = inr (judge_adds_nothing found w does)
 adds_with_zero (Some (command.Dump source)) found w does = elim (refused_or_whole source found w does) [
   | inl refused ↦ inr (refused_adds_nothing refused.0 w refused.1)
@@ -71,7 +56,6 @@ adds_with_zero (Some (command.Read name va count)) found w does = inr (ap (λ x.
 
 starves_with_nothing : (command : Option Command) (found : Seen) (added : Added) → (row_of command).Starves found added → added ≡ nothing
 starves_with_nothing None found added is = is
-starves_with_nothing (Some (command.Image arch number file)) found added is = is
 starves_with_nothing (Some command.Judge) found added is = is
 starves_with_nothing (Some (command.Dump source)) found added is = is
 starves_with_nothing (Some (command.Read name va count)) found added is = is

@@ -3,7 +3,6 @@ use Rattle.std.specs.Prelude.{Option, Some, None}
 use Rattle.fd_cli.specs.Row.{Row}
 use Rattle.fd_cli.specs.Rows.Common.{AddsNothing, Refuses, SaysNothing, no_fault}
 use Rattle.fd_cli.specs.Rows.Dump.{dump_row}
-use Rattle.fd_cli.specs.Rows.Image.{image_row}
 use Rattle.fd_cli.specs.Rows.Judge.{judge_row}
 use Rattle.fd_cli.specs.Rows.Read.{read_row}
 use Rattle.fd_cli.specs.declared.command.Command.{Command}
@@ -11,7 +10,6 @@ use Rattle.fd_cli.specs.declared.command.Command.TheVariants as command
 use Rattle.fd_cli.specs.declared.refusal.Refusal.TheVariants.{NotCommand}
 pub mod Common
 pub mod Dump
-pub mod Image
 pub mod ImageRead
 pub mod Judge
 pub mod Read
@@ -28,7 +26,6 @@ no_command_row = record {
 
 abbrev pub row_of : Option Command → Row
 row_of None = no_command_row
-row_of (Some (command.Image arch number file)) = image_row arch number file
 row_of (Some command.Judge) = judge_row
 row_of (Some (command.Dump source)) = dump_row source
 row_of (Some (command.Read name va count)) = read_row name va count

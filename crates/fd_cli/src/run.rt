@@ -21,7 +21,6 @@ use crate::answer::Answer;
 use crate::command::{Command, read_command};
 use crate::dump_image::dump_image;
 use crate::judge_partition::judge_partition;
-use crate::make_image::make_image;
 use crate::read_memory::read_memory;
 use crate::refusal::Refusal;
 use crate::reply::{Reply, Trouble};
@@ -79,7 +78,6 @@ fn work<S: Site, L: Link, P: Ports>(
             let reply = Reply::new(alloc, &Answer::Refused(Refusal::NotCommand))?;
             Ok(reply)
         }
-        Some(Command::Image { arch, number, file }) => make_image(alloc, site, arch, number, &file),
         Some(Command::Judge) => judge_reply(alloc, site),
         Some(Command::Dump { image }) => dump_image(alloc, site, &image),
         Some(
@@ -116,8 +114,7 @@ fn carry_out<S: Site, L: Link, P: Ports, O: Sink>(
 
 /// Does what the words ask for, prints its text and answers its status.
 ///
-/// `image ARCH NUMBER FILE` writes the image that is made of a number and prints `image FILE BYTES`. `savecore -C` judges
-/// the partition and prints `dump LENGTH`, or the refusal with status 1. `dump IMAGE` writes the dump of a machine image,
+/// `savecore -C` judges the partition and prints `dump LENGTH`, or the refusal with status 1. `dump IMAGE` writes the dump of a machine image,
 /// of that file or made, and prints `dumped LENGTH`. `read FILE ADDRESS LENGTH` prints the bytes of
 /// a saved minidump at kernel addresses, 16 a line; an address that has no byte is refused with 1. A partition that
 /// can't hold a dump, a file that is no image or no minidump, and a partition without room are refused with 65, words

@@ -17,8 +17,8 @@ pub enum Source {
     Made { arch: Arch, number: u64 },
 }
 
-/// The architecture that a word names: `amd64`, `arm64` or `riscv`.
-pub(crate) fn read_arch(word: &[u8]) -> Option<Arch>
+// The architecture that a word names: `amd64`, `arm64` or `riscv`.
+fn read_arch(word: &[u8]) -> Option<Arch>
     ensures { result ≡ arch_of word.now }
 {
     match word {
@@ -31,7 +31,8 @@ pub(crate) fn read_arch(word: &[u8]) -> Option<Arch>
 
 // `@ARCH:NUMBER`. Each architecture's word has five bytes.
 fn read_made(word: &[u8]) -> Option<Source>
-    ensures { result ≡ made_of word.now }
+    ensures value { result ≡ made_of word.now }
+    ensures name { IfSome result HasGoodName }
 {
     if word.len() < 7 || word[0] != b'@' || word[6] != b':' {
         return None;

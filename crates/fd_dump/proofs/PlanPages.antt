@@ -2,14 +2,13 @@
 use Rattle.std.proofs.Common.{◌≡◌, ◌∙◌, ℕ, ◌+◌, ◌-◌, ◌*◌, ◌/◌, ◌%◌, ◌^◌, ◌<◌, ◌≤◌, List, length, slice_range, ap, sym, arith}
 use Rattle.std.specs.Int.{div_ceil}
 use Rattle.fd_bitmap.specs.Bits.{set_count}
-use Rattle.fd_bitmap.specs.Pages.{pages_of}
 use Rattle.fd_image.specs.Image.{MachineImage, IsValid}
 use Rattle.fd_mini.specs.Page as mini
-use Rattle.fd_mini.specs.Places.{rounded_up, places_of}
+use Rattle.fd_mini.specs.Places.{places_of}
 use Rattle.fd_mini.specs.declared.places.Places.{Places}
 use Rattle.fd_mini.proofs.Layouts.{length-page_of}
 use Rattle.fd_dump.specs.Dumped.{dumped_bits}
-use Rattle.fd_dump.specs.Minidump.{filled, avail_bytes, bitmap_bytes, directory_of, memory_of, mini_header_of, minidump_of, entry_count}
+use Rattle.fd_dump.specs.Minidump.{filled, avail_bytes, bitmap_bytes, directory_of, memory_of, mini_header_of, minidump_of}
 use Rattle.fd_dump.specs.Plan.{Planned, IsPlanOf}
 use Rattle.fd_dump.specs.Sections.{nth_page, page_span, directory_page_of}
 use Rattle.fd_dump.proofs.Directory.{whole_of, directory-page}

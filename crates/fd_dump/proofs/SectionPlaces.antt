@@ -1,5 +1,5 @@
 -- Where the sections of an image's minidump stand, and how long they are.
-use Rattle.std.proofs.Common.{◌≡◌, ℕ, ◌+◌, ◌*◌, ◌/◌, ◌%◌, List, [], ◌++◌, length, ◌∙◌, ap, arith, append_assoc, append-nil, length-append}
+use Rattle.std.proofs.Common.{◌≡◌, ℕ, ◌+◌, List, [], ◌++◌, length, ◌∙◌, ap, arith, append_assoc, append-nil, length-append}
 use Rattle.std.specs.Int.{div_ceil}
 use Rattle.fd_image.specs.Image.{MachineImage, IsValid}
 use Rattle.fd_mini.specs.Page as mini

@@ -1,14 +1,12 @@
 -- What is left of a minidump after some of its pages.
-use Rattle.std.proofs.Common.{◌≡◌, ◌∙◌, ℕ, ◌+◌, ◌-◌, ◌*◌, ◌/◌, ◌%◌, ◌<◌, ◌≤◌, List, [], ◌++◌, length, drop, slice_range, ap, sym, arith}
-use Rattle.std.proofs.lemmas.List.{drop_all}
+use Rattle.std.proofs.Common.{◌≡◌, ◌∙◌, ℕ, ◌+◌, ◌-◌, ◌*◌, ◌<◌, ◌≤◌, List, ◌++◌, length, drop, slice_range, ap, arith}
 use Rattle.std.proofs.lemmas.List.Folds.{drop_split}
 use Rattle.fd_bitmap.specs.Bits.{set_count}
 use Rattle.fd_image.specs.Image.{MachineImage}
 use Rattle.fd_mini.specs.Places.{places_of}
-use Rattle.fd_dump.specs.Minidump.{memory_of, minidump_of}
+use Rattle.fd_dump.specs.Minidump.{minidump_of}
 use Rattle.fd_dump.specs.Plan.{Planned, IsPlanOf}
-use Rattle.fd_dump.proofs.PlanPages.{length-planned, memory-range}
-use Rattle.fd_dump.proofs.Sizes.{length-memory}
+use Rattle.fd_dump.proofs.PlanPages.{length-planned}
 
 -- the next pages come first
 pub next_pages : (whole : List ℕ) (next count : ℕ) → drop (4096 * next) whole ≡ slice_range whole (4096 * next) (4096 * next + 4096 * count) ++ drop (4096 * (next + count)) whole

@@ -1,7 +1,6 @@
 use Rattle.std.proofs.Common.{Some, refl, sym, ◌∙◌, ap}
 use Rattle.fd_cli.specs.Command.{command_of}
 use Rattle.fd_cli.specs.Rows.Dump.{dump_row}
-use Rattle.fd_cli.specs.Rows.Image.{image_row}
 use Rattle.fd_cli.specs.Rows.Judge.{judge_row}
 use Rattle.fd_cli.specs.Rows.Read.{read_row}
 use Rattle.fd_cli.specs.declared.command.Command.{Command}
@@ -18,13 +17,6 @@ pub returns-in_ok-reply-in-None : goal.returns-in_ok-reply-in-None
 returns-in_ok-reply-in-None g c =
     worked_by _ _ _ _ _ (sym c.in_ok-read_command.ensures.value ∙ c.in-None.is)
     (not_a_command _ c.in_ok-reply-in-None.reply c.in_ok-reply-in-None.ensures)
-
-pub returns-in-Some-Image : goal.returns-in-Some-Image
-returns-in-Some-Image g c =
-    let i = c.in-Some-Image in
-    let done = c.make_image.ensures in
-    worked_by _ _ _ _ _ (sym c.in_ok-read_command.ensures.value ∙ i.is ∙ ap (λ (x : Command). Some x) i.field-0-is)
-    (worked_on_site (image_row i.arch i.number i.file) _ _ _ _ _ done.works done.frame done.cause refl)
 
 pub returns-in-Some-Judge : goal.returns-in-Some-Judge
 returns-in-Some-Judge g c =

@@ -4,7 +4,7 @@ use Rattle.fd_mini.specs.Page as mini
 use Rattle.fd_dump.specs.Minidump.{filled, avail_bytes, bitmap_bytes}
 use Rattle.fd_dump.specs.Sections.{nth_page}
 use Rattle.fd_dump.proofs.Limits.{small, pages_few}
-use Rattle.fd_dump.proofs.PlanPages.{header-page, msgbuf-page, msgbuf-within, ranges-page, ranges-within, bitmap-page, bitmap-within, directory-within, directory_page-of}
+use Rattle.fd_dump.proofs.PlanPages.{header-page, msgbuf-page, ranges-page, ranges-within, bitmap-page, directory-within, directory_page-of}
 use Rattle.fd_dump.proofs.Sizes.{length-bits}
 use Rattle.fd_dump.proofs.plan.Plan.front_page.Goals as goal
 
