@@ -1,5 +1,5 @@
 -- What judging a partition answers.
-use Rattle.std.specs.Prelude.{ℕ, ◌%◌, Bool, ◌&&◌, ◌||◌, not, ◌==◌, nat_lt, List, [], ◌∷◌, ◌++◌, length, take, drop, if◌then◌else◌, Option, Some, None}
+use Rattle.std.specs.Prelude.{◌≡◌, ℕ, ◌%◌, Bool, ◌&&◌, ◌||◌, not, ◌==◌, nat_lt, List, [], ◌∷◌, ◌++◌, length, take, drop, if◌then◌else◌, Option, Some, None}
 use Rattle.std.specs.Prelude.{is_none, position, Result, Ok, Err}
 use Rattle.std.specs.List.{zip}
 use Rattle.std.specs.Str.{bytes_eq}
@@ -74,3 +74,12 @@ by_sectors part block sector seen = by_header part block sector seen (decoded se
 abbrev pub judged : List ℕ → ℕ → Bool → Verdict
 judged part block force =
     by_sectors part block (trailing_sector part block) (taken force (trailing_sector part block))
+
+-- nothing speaks against the header of a dump that is found, and the dump lies where the header says
+pub record IsPlacedDump (h : Header) (at size block : ℕ) : Type 0 where
+  pub sound : first_of (reasons h size block) ≡ None
+  pub place : at ≡ dump_place size block h.dumpextent
+
+abbrev pub IsPlaced : (size block : ℕ) → Verdict → Type 0
+IsPlaced size block (Dump h at sector) = IsPlacedDump h at size block
+IsPlaced size block (Refused why) = Unit {0}

@@ -5,7 +5,7 @@ ghost use Rattle.fd_site.specs.Contents.{Told, part_of, IsSectors};
 ghost use Rattle.fd_site.specs.Fault.{Rose};
 ghost use Rattle.fd_site.specs.Seen.{Untouched};
 ghost use Rattle.fd_part.specs.Partition.{is_good, leading_place, need_of};
-ghost use Rattle.fd_judge.specs.Verdict.{judged, taken, reasons, first_of, first_difference};
+ghost use Rattle.fd_judge.specs.Verdict.{IsPlaced, judged, taken, reasons, first_of, first_difference};
 
 use crate::why::Why;
 use fd_bytes::Arch;
@@ -79,6 +79,7 @@ fn difference(a: &[u8; 512], b: &[u8; 512]) -> Option<usize>
 pub fn judge<S: Site>(site: &mut S, force: bool) -> Result<Verdict, SiteFault>
     requires { IsTrue (is_good (S.seen site.old).size (S.seen site.old).block) }
     ensures verdict { IfOk result (λ v. Told (S.seen site.old).told (λ c. v ≡ judged (part_of c) (S.seen site.old).block force)) }
+    ensures placed { IfOk result (IsPlaced (S.seen site.old).size (S.seen site.old).block) }
     ensures untouched { Untouched (S.seen site.old) (S.seen site.new) }
     ensures cause { OnErr result (Rose (S.seen site.old).faults (S.seen site.new).faults) }
 {

@@ -1,4 +1,5 @@
 pub mod Crash
+pub mod Laws
 pub mod Number
 pub mod Outcome
 pub mod Saving

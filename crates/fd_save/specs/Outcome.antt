@@ -1,8 +1,8 @@
 -- What saving and clearing answer, and what they leave.
-use Rattle.std.specs.Prelude.{◌≡◌, ◌⊎◌, ℕ, ◌+◌, Bool, List, slice_range, Option, Some, None, Result, Ok, Err}
+use Rattle.std.specs.Prelude.{◌≡◌, ◌⊎◌, ℕ, ◌+◌, Bool, List, [], ◌∷◌, length, slice_range, Option, Some, None, Result, Ok, Err}
 use Rattle.fd_site.specs.Begun.{IsBegun}
 use Rattle.fd_site.specs.Contents.{Adds, Contents, Told, file_of, part_of, with_entries}
-use Rattle.fd_site.specs.Journal.{Entry}
+use Rattle.fd_site.specs.Journal.{Entry, Write}
 use Rattle.fd_site.specs.Seen.{Seen}
 use Rattle.fd_kdh.specs.declared.header.Header.{Header}
 use Rattle.fd_judge.specs.Verdict.{judged}
@@ -32,6 +32,13 @@ pub record Copies (P : List ℕ → List Entry → Type 0) (at len : ℕ) (old n
   pub body : List ℕ
   pub bytes : Told old (λ c. body ≡ slice_range (part_of c) at (at + len))
   pub adds : Adds (P body) old new
+
+-- a piece of the partition, so many bytes from a place on, was written to a file's place
+pub record CopiesPiece (name : List ℕ) (from at count : ℕ) (old new : Option Contents) : Type 0 where
+  pub piece : List ℕ
+  pub size : length piece ≡ count
+  pub bytes : Told old (λ c. piece ≡ slice_range (part_of c) from (from + count))
+  pub told : new ≡ with_entries old (Write name at piece ∷ [])
 
 -- a dump was saved
 pub record Saves (options : Options) (old : Seen) (new : Option Contents) (saved : Saved) : Type 0 where

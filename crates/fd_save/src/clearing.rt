@@ -7,8 +7,8 @@ ghost use Rattle.fd_site.specs.Fault.{Rose};
 ghost use Rattle.fd_site.specs.Seen.{Frame};
 ghost use Rattle.fd_part.specs.Partition.{is_good};
 ghost use Rattle.fd_save.specs.Outcome.{Clears, IsAll, MayHaveBegunToClear, OnNo, OnRefused, Refuses};
-ghost use Rattle.fd_save.specs.Saving.{clearing};
-ghost use Rattle.fd_save.specs.declared.fault.SaveFault.TheVariants.{NoNumber, SiteFault};
+ghost use Rattle.fd_save.specs.Saving.{cleared_sector, clearing};
+ghost use Rattle.fd_save.specs.declared.fault.SaveFault.TheVariants.{NoNumber};
 
 use crate::fault::SaveFault;
 use crate::saved::Saved;
@@ -35,10 +35,10 @@ pub fn clear_only<S: Site>(site: &mut S, force: bool) -> Result<(), SaveFault>
     ensures cleared { OnOk result (Clears IsAll force (S.seen site.old) (S.seen site.new).told) }
     ensures refused { OnRefused result (Refuses force (S.seen site.old)) }
     ensures unchanged { OnNo result ((S.seen site.new).told ≡ (S.seen site.old).told) }
-    ensures fault { IsErrOf result SiteFault → MayHaveBegunToClear force (S.seen site.old) (S.seen site.new).told }
+    ensures fault { IsErrOf result SaveFault.SiteFault → MayHaveBegunToClear force (S.seen site.old) (S.seen site.new).told }
     ensures numbered { IsErrOf result NoNumber → ⊥ }
     ensures frame { Frame (S.seen site.old) (S.seen site.new) }
-    ensures cause { IsErrOf result SiteFault → Rose (S.seen site.old).faults (S.seen site.new).faults }
+    ensures cause { IsErrOf result SaveFault.SiteFault → Rose (S.seen site.old).faults (S.seen site.new).faults }
 {
     match judge(site, force)? {
         Verdict::Dump { sector, .. } => {
@@ -57,7 +57,15 @@ fn clear_sector<S: Site>(site: &mut S, sector: &[u8; 512]) -> Result<(), Failed>
     ensures frame { Frame (S.seen site.old) (S.seen site.new) }
     ensures cause { OnErr result (Rose (S.seen site.old).faults (S.seen site.new).faults) }
 {
+    let cleared = cleared_sector(sector);
+    let at = site.size() - u64::from(site.block());
+    site.write_part(at, &cleared)
+}
+
+fn cleared_sector(sector: &[u8; 512]) -> [u8; 512]
+    ensures { result ≡ cleared_sector sector.now }
+{
     let mut cleared = *sector;
     cleared[..20].copy_from_slice(&CLEARED_MAGIC);
-    site.write_part(site.size() - u64::from(site.block()), &cleared)
+    cleared
 }

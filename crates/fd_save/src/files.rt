@@ -1,13 +1,12 @@
 //! Whole files of a site.
 
-ghost use Rattle.std.specs.Prelude.{◌≡◌, ◌+◌, ◌%◌, ◌≤◌, ◌<◌, ◌^◌, ℕ, [], ◌∷◌, List, IsSome, IsTrue, OnErr, OnOk, length, slice_range};
-ghost use Rattle.fd_site.specs.Contents.{Adds, IsFailedFile, IsSectors, Told, file_of, part_of, with_entries};
+ghost use Rattle.std.specs.Prelude.{◌≡◌, ◌+◌, ◌%◌, ◌≤◌, ◌<◌, ◌^◌, IsSome, IsTrue, OnErr, OnOk};
+ghost use Rattle.fd_site.specs.Contents.{Adds, IsFailedFile, IsSectors, Told, file_of};
 ghost use Rattle.fd_site.specs.Fault.{Rose};
 ghost use Rattle.fd_site.specs.FileJournal.{IsBegunFile, IsFileJournal};
-ghost use Rattle.fd_site.specs.Journal.{Write};
 ghost use Rattle.fd_site.specs.Name.{is_good_name};
 ghost use Rattle.fd_site.specs.Seen.{Frame};
-ghost use Rattle.fd_save.specs.Outcome.{Copies};
+ghost use Rattle.fd_save.specs.Outcome.{Copies, CopiesPiece};
 
 use fd_site::{Failed, Site};
 
@@ -25,12 +24,7 @@ pub(crate) fn make_file<S: Site>(site: &mut S, name: &str, bytes: &[u8]) -> Resu
 }
 
 /// Makes a file of the partition's bytes from `at` on, `len` of them, and syncs it. They are copied in pieces of 4096.
-pub(crate) fn copy_part<S: Site>(
-    site: &mut S,
-    name: &str,
-    at: u64,
-    len: u64,
-) -> Result<(), Failed>
+pub(crate) fn copy_part<S: Site>(site: &mut S, name: &str, at: u64, len: u64) -> Result<(), Failed>
     requires name { IsTrue (is_good_name name.now) }
     requires start { at % 512 ≡ 0 }
     requires sectors { len % 512 ≡ 0 }
@@ -41,34 +35,35 @@ pub(crate) fn copy_part<S: Site>(
     ensures frame { Frame (S.seen site.old) (S.seen site.new) }
     ensures cause { OnErr result (Rose (S.seen site.old).faults (S.seen site.new).faults) }
 {
-    let mut buffer = [0; 4096];
     let mut done = 0;
     site.create(name)?;
     while done < len {
         let count = (len - done).min(4096);
-        copy_piece(site, name, at + done, done, &mut buffer[..count as usize])?;
+        copy_piece(site, name, at + done, done, count)?;
         done += count;
     }
     site.sync_file(name)
 }
 
-// Copies the partition's bytes from `from` on to the file's place `at`, as many as the buffer has.
+// Copies `count` bytes of the partition from `from` on to the file's place `at`.
 fn copy_piece<S: Site>(
     site: &mut S,
     name: &str,
     from: u64,
     at: u64,
-    buffer: &mut [u8],
+    count: u64,
 ) -> Result<(), Failed>
     requires name { IsTrue (is_good_name name.now) }
     requires there { Told (S.seen site.old).told (λ c. IsSome (file_of c name.now)) }
-    requires sectors { IsSectors from (length buffer.old) (S.seen site.old).size }
-    ensures bytes { OnOk result (Told (S.seen site.old).told (λ c. buffer.new ≡ slice_range (part_of c) from (from + length buffer.old))) }
-    ensures ok { OnOk result ((S.seen site.new).told ≡ with_entries (S.seen site.old).told (Write name.now at buffer.new ∷ [])) }
+    requires sectors { IsSectors from count (S.seen site.old).size }
+    requires short { count ≤ 4096 }
+    ensures ok { OnOk result (CopiesPiece name.now from at count (S.seen site.old).told (S.seen site.new).told) }
     ensures err { OnErr result (Adds (IsFailedFile name.now) (S.seen site.old).told (S.seen site.new).told) }
     ensures frame { Frame (S.seen site.old) (S.seen site.new) }
     ensures cause { OnErr result (Rose (S.seen site.old).faults (S.seen site.new).faults) }
 {
-    site.read_part(from, buffer)?;
-    site.write_file(name, at, buffer)
+    let mut buffer = [0; 4096];
+    let piece = &mut buffer[..count as usize];
+    site.read_part(from, piece)?;
+    site.write_file(name, at, piece)
 }

@@ -67,6 +67,8 @@ fn save_files<S: Site>(site: &mut S, saved: &Saved) -> Result<(), Failed>
     ensures frame { Frame (S.seen site.old) (S.seen site.new) }
     ensures cause { OnErr result (Rose (S.seen site.old).faults (S.seen site.new).faults) }
 {
+    // Its size fits 64 bits, so no place in the partition wraps.
+    let _size = site.size();
     let vmcore = vmcore_name(saved.number);
     copy_part(site, vmcore.as_str(), saved.at, saved.header.dumplength)?;
     let info = info_name(saved.number);

@@ -1,0 +1,1 @@
+//! Saving dumps over partitions in memory.
