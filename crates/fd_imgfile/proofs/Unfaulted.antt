@@ -176,7 +176,7 @@ pub eights : (xs : List ℕ) → length (flat_map u64 xs) ≡ 8 * length xs
 eights [] = refl
 eights (x ∷ xs) = omega (arith, length-append (u64 x) (flat_map u64 xs), eights xs)
 
-memory_length : (m : MachineImage) → length (memory_of m) ≡ memory_size m.segs
+pub memory_length : (m : MachineImage) → length (memory_of m) ≡ memory_size m.segs
 memory_length m = ap length (concat_is (map (λ seg. seg.bytes) m.segs))
     ∙ (length-flat_map (λ (bytes : List ℕ). bytes) (map (λ seg. seg.bytes) m.segs) ∙ fold-map (λ (a : ℕ) (bytes : List ℕ). a + length bytes) (λ (seg : Seg). seg.bytes) 0 m.segs)
 

@@ -1,5 +1,5 @@
 -- What is written behind a file's bytes, piece after piece.
-use Rattle.std.proofs.Common.{◌≡◌, ℕ, ◌+◌, ◌<◌, ◌≤◌, List, [], ◌∷◌, ◌++◌, length, take, drop, get_or, Option, IsSome, Result, Ok, Err, OnErr, refl, sym, subst, ◌∙◌, ap, append_assoc, arith, length-append}
+use Rattle.std.proofs.Common.{◌≡◌, ℕ, ◌+◌, ◌<◌, ◌≤◌, ◌^◌, List, [], ◌∷◌, ◌++◌, length, take, drop, get_or, Option, IsSome, Result, Ok, Err, IfOk, OnErr, OnOk, refl, sym, subst, ◌∙◌, ap, append_assoc, arith, length-append}
 use Rattle.std.specs.List.{flat_map}
 use Rattle.std.proofs.lemmas.List.{append-nil, take-append-drop, take_more}
 use Rattle.std.proofs.lemmas.List.Concat.{flat_map-append}
@@ -13,6 +13,18 @@ use Rattle.fd_imgfile.specs.Writing.{BeginsOn, IsWrittenTo, WritesOn}
 pub on_err : {T E P : Type 0} (r : Result T E) → P → OnErr r P
 on_err (Ok x) p = tt
 on_err (Err e) p = p
+
+pub when_ok : {T E P Q : Type 0} (r : Result T E) → OnOk r P → (P → Q) → OnOk r Q
+when_ok (Ok x) p step = step p
+when_ok (Err e) p step = tt
+
+pub when_err : {T E P Q : Type 0} (r : Result T E) → OnErr r P → (P → Q) → OnErr r Q
+when_err (Ok x) p step = tt
+when_err (Err e) p step = step p
+
+pub if_ok : {T E : Type 0} (P Q : T → Type 0) (r : Result T E) → IfOk r P → ((x : T) → P x → Q x) → IfOk r Q
+if_ok P Q (Ok x) p step = step x p
+if_ok P Q (Err e) p step = tt
 
 -- Items that are written in turn.
 pub items_split : {X : Type 0} (f : X → List ℕ) (xs : List X) (n : ℕ) → flat_map f xs ≡ flat_map f (take n xs) ++ flat_map f (drop n xs)
@@ -70,3 +82,27 @@ module _ (name : List ℕ) where
         λ base front rest is made. subst (λ (l : List ℕ). Adds (IsBegunFile name (front ++ l)) base b) (sym (append_assoc xs ys rest))
         (first.begun base front (ys ++ rest) is made);
   }
+
+-- An item of a list, written behind those before it.
+module _ (name : List ℕ) {X : Type 0} (f : X → List ℕ) (xs : List X) (i : ℕ) (x : X) (at next : ℕ) (within : i < length xs) (is : x ≡ get_or xs i x)
+    (place : next ≡ at + length (flat_map f (take i xs))) where
+  more : flat_map f (take i xs) ++ f x ≡ flat_map f (take (i + 1) xs)
+  more = ap (λ y. flat_map f (take i xs) ++ f y) is ∙ sym (items_more f xs i x within)
+
+  longer : length (flat_map f (take (i + 1) xs)) ≡ length (flat_map f (take i xs)) + length (f x)
+  longer = sym (ap length more) ∙ length-append (flat_map f (take i xs)) (f x)
+
+  pub item_fits : at + length (flat_map f xs) < 2 ^ 64 → next + length (f x) < 2 ^ 64
+  item_fits fits = omega (arith, fits, place, longer, items_within f xs (i + 1))
+
+  pub item_ends : (end : ℕ) → end ≡ next + length (f x) → end ≡ at + length (flat_map f (take (i + 1) xs))
+  item_ends end behind = omega (arith, behind, place, longer)
+
+  module _ (a b c : Option Contents) (before : WritesOn name at (flat_map f (take i xs)) a b) where
+    pub item_written : WritesOn name next (f x) b c → WritesOn name at (flat_map f (take (i + 1) xs)) a c
+    item_written here = subst (λ (l : List ℕ). WritesOn name at l a c) more (writes_then name at next (flat_map f (take i xs)) (f x) a b c place before here)
+
+    pub item_begun : BeginsOn name next (f x) b c → BeginsOn name at (flat_map f xs) a c
+    item_begun here = subst (λ (l : List ℕ). BeginsOn name at l a c) (sym (items_split f xs (i + 1)))
+        (begins_first name at (flat_map f (take (i + 1) xs)) (flat_map f (drop (i + 1) xs)) a c
+        (subst (λ (l : List ℕ). BeginsOn name at l a c) more (begins_then name at next (flat_map f (take i xs)) (f x) a b c place before here)))

@@ -9,6 +9,8 @@ mod read;
 mod tables;
 #[cfg(test)]
 mod tests;
+mod write;
 
 pub use fault::ImageFault;
 pub use read::read_image;
+pub use write::write_image;

@@ -1,10 +1,11 @@
 //! A small image's file, written and read, and files that are almost one.
 ghost use Rattle.std.specs.Prelude.{◌+◌, ◌*◌, ◌≤◌, length};
 
-use crate::{ImageFault, read_image};
+use crate::{ImageFault, read_image, write_image};
 use fd_bytes::Arch;
 use fd_fake::MemSite;
 use fd_image::{BadImage, Image, Windows};
+use fd_site::{Failed, Site, good_name};
 use std::alloc::{AllocError, Global};
 use std::process::Abort;
 use std::test::Fail;
@@ -149,6 +150,41 @@ fn is_the_small_image(rt: &impl Abort, image: &Image) {
 fn a_small_image_is_read(rt: HostRuntime) -> Result<(), Fail> {
     let image = small_image(rt.alloc())?;
     is_the_small_image(&rt, &image);
+    Ok(())
+}
+
+// The file's bytes, where it has as many.
+fn bytes_of<S: Site>(
+    rt: &impl Abort,
+    site: &mut S,
+    name: &str,
+    out: &mut [u8],
+) -> Result<(), Failed> {
+    assert!(rt; good_name(name));
+    match site.file_len(name)? {
+        Some(len) => {
+            assert_eq!(rt; len, out.len() as u64);
+            site.read_file(name, 0, out)
+        }
+        None => Err(Failed),
+    }
+}
+
+fn is_written<S: Site>(rt: &impl Abort, site: &mut S, image: &Image) -> Result<(), Failed> {
+    let mut expected = [0; LEN];
+    spell(&mut expected);
+    let mut written = [0; LEN];
+    assert_eq!(rt; write_image(site, "b.img", image), Ok(LEN as u64));
+    bytes_of(rt, site, "b.img", &mut written)?;
+    assert!(rt; written == expected);
+    Ok(())
+}
+
+#[test]
+fn an_image_is_written_as_its_file(rt: HostRuntime) -> Result<(), Fail> {
+    let image = small_image(rt.alloc())?;
+    let mut site = MemSite::new(rt.alloc(), 0, 512, Vec::new(rt.alloc()))?;
+    is_written(&rt, &mut site, &image)?;
     Ok(())
 }
 

@@ -1,5 +1,5 @@
 -- One more part is read.
-use Rattle.std.proofs.Common.{◌≡◌, ◌+◌, ◌≤◌, ◌++◌, ℕ, List, Option, length, replicate, slice_range, subst, ap, ◌∙◌, arith, length-append}
+use Rattle.std.proofs.Common.{◌≡◌, ◌+◌, ◌++◌, ℕ, List, Option, length, replicate, slice_range, subst, ap, ◌∙◌, arith, length-append}
 use Rattle.std.proofs.lemmas.List.{length-replicate}
 use Rattle.fd_raw.proofs.Written.{part-long, written-behind}
 use Rattle.fd_raw.specs.Written.{written}

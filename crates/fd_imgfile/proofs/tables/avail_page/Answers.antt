@@ -1,5 +1,5 @@
 -- One more pair is put.
-use Rattle.std.proofs.Common.{◌≡◌, ◌+◌, ◌*◌, ◌<◌, ◌++◌, ℕ, List, length, get_or, sym, ◌∙◌, append_assoc, arith}
+use Rattle.std.proofs.Common.{◌≡◌, ◌++◌, ℕ, List, get_or, sym, ◌∙◌, append_assoc, arith}
 use Rattle.fd_imgfile.specs.Spelling.{avail_bytes, u64}
 use Rattle.fd_imgfile.proofs.Writing.{items_more}
 use Rattle.fd_imgfile.proofs.tables.avail_page.Goals as goal

@@ -1,5 +1,5 @@
 -- One more segment is put.
-use Rattle.std.proofs.Common.{◌≡◌, ◌+◌, ◌*◌, ◌<◌, ◌++◌, ℕ, List, length, get_or, sym, ◌∙◌, append_assoc, arith}
+use Rattle.std.proofs.Common.{◌≡◌, ◌++◌, ℕ, List, length, sym, ◌∙◌, append_assoc, arith}
 use Rattle.fd_image.specs.declared.parts.Seg.{Seg}
 use Rattle.fd_imgfile.specs.Spelling.{seg_bytes, u64}
 use Rattle.fd_imgfile.proofs.Writing.{items_more}
