@@ -10,7 +10,7 @@ use Rattle.fd_site.specs.Seen.{Frame, Seen, Watched}
 use Rattle.fd_site.specs.Trace.{LinkEvent, PortsEvent, grown}
 use Rattle.fd_site.proofs.Told.{grown-nil, with_entries-nil}
 use Rattle.fd_cli.specs.Ending.{Call}
-use Rattle.fd_cli.specs.Reply.{IsReplyOf, Worked, Works, WorksOnSite}
+use Rattle.fd_cli.specs.Reply.{IsReplyOf, Worked, Works, WorksOnSite, text_bytes}
 use Rattle.fd_cli.specs.Row.{Blamed, Grew, Kept, Outside, Reach, Row, nothing, only, reach}
 use Rattle.fd_cli.specs.Rows.{no_command_row, row_of}
 use Rattle.fd_cli.specs.declared.answer.Answer.TheVariants.{Refused}
@@ -85,7 +85,10 @@ worked_on_site row old new link ports result works frame cause blamed = record {
 -- no memory was found for the words
 starves_at_once : (command : Option Command) (found : Seen) → (row_of command).Starves found nothing
 starves_at_once None found = refl
-starves_at_once (Some command.Judge) found = refl
+starves_at_once (Some (command.Image arch number file)) found = refl
+starves_at_once (Some (command.Judge force)) found = refl
+starves_at_once (Some (command.Clear force)) found = refl
+starves_at_once (Some (command.Save options keep)) found = refl
 starves_at_once (Some (command.Dump source)) found = refl
 starves_at_once (Some (command.Read name va count)) found = refl
 
@@ -152,7 +155,7 @@ starved row old new silent worked = record {
 
 -- the reply was printed
 pub answered : (row : Row) (old new : Outside) (reply : Reply) → Worked row old.reach new.reach (Ok reply)
-    → new.sink.told ≡ grown old.sink.told (reply.text.items) → old.sink.faults ≤ new.sink.faults → Call row old new reply.status
+    → new.sink.told ≡ grown old.sink.told (text_bytes reply.text) → old.sink.faults ≤ new.sink.faults → Call row old new reply.status
 answered row old new reply worked text count = record {
   ends = inl (record {
     work = worked.works.work;
@@ -166,7 +169,7 @@ answered row old new reply worked text count = record {
 }
 
 -- the sink failed
-pub unprinted : (row : Row) (old new : Outside) (reply : Reply) → Worked row old.reach new.reach (Ok reply) → (bytes : List ℕ) → bytes ≡ reply.text.items
+pub unprinted : (row : Row) (old new : Outside) (reply : Reply) → Worked row old.reach new.reach (Ok reply) → (bytes : List ℕ) → bytes ≡ text_bytes reply.text
     → ((n : ℕ) × (new.sink.told ≡ grown old.sink.told (take n bytes))) → old.sink.faults ≤ new.sink.faults → Rose old.sink.faults new.sink.faults
     → Call row old new 74
 unprinted row old new reply worked bytes text_is text count rose = record {

@@ -125,13 +125,13 @@ of_true false P is p = absurd (cc)
 
 -- after a whole dump, a judge over what it left answers its length
 judged_after : (found : Seen) (source : Source) (dump judge : Work) → IsSized found → IsWhole source found dump
-    → OnGood (after found dump) (Judges (after found dump)) judge
+    → OnGood (after found dump) (Judges false (after found dump)) judge
     → Told found.told (λ c. (m : MachineImage) × Names c source m × (judge.answer ≡ Dump (length (minidump_of m))))
 judged_after found source dump judge sized whole judges c told =
     let now : Contents = record c { journal = c.journal ++ dump.added.entries } in
     let told_now : with_entries found.told dump.added.entries ≡ Some now = ap (λ t. with_entries t dump.added.entries) told in
     let this = found_after found source dump (with_entries found.told dump.added.entries) sized whole refl c now told told_now in
-    let judged = of_true (is_good found.size found.block) (Judges (after found dump) judge) whole.good judges.0 in
+    let judged = of_true (is_good found.size found.block) (Judges false (after found dump) judge) whole.good judges.0 in
     (this.0, this.1, ap (λ w. w.answer) judged.2 ∙ ap verdict_answer (judged.1 now told_now ∙ this.2.verdict))
 
 pub judge_finds_dump : JudgeFindsDump

@@ -1,4 +1,5 @@
 mod Calls
+mod Composed
 mod Cuts
 mod Dumps
 mod Good
@@ -6,4 +7,5 @@ mod Images
 mod Outcomes
 mod Reading
 mod Refused
+mod Saves
 mod Sound

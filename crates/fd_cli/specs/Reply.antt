@@ -1,5 +1,5 @@
 -- What a command replies: its answer as a text and a status, or why there is none.
-use Rattle.std.specs.Prelude.{◌≡◌, List, Result, Ok, Err, IsErrOf}
+use Rattle.std.specs.Prelude.{◌≡◌, ℕ, List, Result, Ok, Err, IsErrOf}
 use Rattle.fd_site.specs.Contents.{with_entries}
 use Rattle.fd_site.specs.Journal.{Entry}
 use Rattle.fd_site.specs.Seen.{Seen}
@@ -9,11 +9,18 @@ use Rattle.fd_cli.specs.declared.answer.Answer.{Answer}
 use Rattle.fd_cli.specs.declared.reply.Reply.{Reply}
 use Rattle.fd_cli.specs.declared.reply.Trouble.{Trouble}
 use Rattle.fd_cli.specs.declared.reply.Trouble.TheVariants.{Fault, NoMemory}
+use Rattle.fd_cli.specs.declared.text.Text.{Text}
+use Rattle.fd_cli.specs.declared.text.Text.TheVariants.{Line, Lines}
+
+-- what is printed, as its bytes
+abbrev pub text_bytes : Text → List ℕ
+text_bytes (Lines lines) = lines.items
+text_bytes (Line line) = line.bytes
 
 -- the text and the status of an answer
 pub record IsReplyOf (answer : Answer) (reply : Reply) : Type 0 where
   pub status : reply.status ≡ answer_status answer
-  pub text : reply.text.items ≡ answer_text answer
+  pub text : text_bytes reply.text ≡ answer_text answer
 
 -- a row's work was done, and the reply has its answer
 pub record Replies (row : Row) (old new : Reach) (reply : Reply) : Type 0 where

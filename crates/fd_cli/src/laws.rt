@@ -1,9 +1,11 @@
 //! What follows from the rows of the commands alone.
 
 ghost use Rattle.std.specs.Prelude.{Option};
-ghost use Rattle.fd_cli.specs.Laws.{EachDumpIsSafe, IsSound, JudgeFindsDump, OnlyDoneOrFailedAdds};
+ghost use Rattle.fd_cli.specs.Laws.{EachCutDumpIsSavedWhole, EachDumpIsSafe, IsSound, JudgeFindsDump, OnlyDoneOrFailedAdds, ReadsWhatWasDumped};
 ghost use Rattle.fd_cli.specs.Rows.{row_of};
 ghost use Rattle.fd_cli.specs.declared.command.Command.{Command};
+
+use fd_way::laws::each_read_of_a_minidump_is_the_images;
 
 /// However a command ends, what it added is what its row leaves.
 pub fn each_row_is_sound()
@@ -24,3 +26,16 @@ pub fn each_dump_is_found()
 pub fn each_dump_is_safe()
     ensures { EachDumpIsSafe }
 {}
+
+/// The headline's first sentence: wherever a machine stops in a `dump` over a clear partition, a `savecore` that meets no
+/// fault refuses it, or saves exactly the image's minidump.
+pub fn each_cut_dump_is_saved_whole()
+    ensures { EachCutDumpIsSavedWhole }
+{}
+
+/// A `read` of what `dump` wrote and `savecore` saved gives what the image gives.
+pub fn each_saved_dump_reads_as_its_image()
+    ensures { ReadsWhatWasDumped }
+{
+    each_read_of_a_minidump_is_the_images();
+}

@@ -9,12 +9,16 @@ mod dump_image;
 mod invocation;
 mod judge_partition;
 pub mod laws;
+mod make_image;
 mod read_memory;
 mod refusal;
 mod reply;
 mod run;
+mod save_dump;
+mod savecore;
 mod source;
 pub mod status;
+mod text;
 mod word;
 
 pub use answer::Answer;

@@ -21,9 +21,11 @@ use crate::answer::Answer;
 use crate::command::{Command, read_command};
 use crate::dump_image::dump_image;
 use crate::judge_partition::judge_partition;
+use crate::make_image::make_image;
 use crate::read_memory::read_memory;
 use crate::refusal::Refusal;
 use crate::reply::{Reply, Trouble};
+use crate::save_dump::{clear_dump, save_dump};
 use crate::status;
 use crate::word::Word;
 use fd_site::{Link, Ports, Sink, Site, SiteFault};
@@ -31,12 +33,12 @@ use fd_way::laws::each_read_of_a_minidump_is_the_images;
 use std::alloc::Global;
 
 // The reply to `savecore -C`.
-fn judge_reply<S: Site>(alloc: Global, site: &mut S) -> Result<Reply, Trouble>
-    ensures works { WorksOnSite judge_row (S.seen site.old) (S.seen site.new) result }
+fn judge_reply<S: Site>(alloc: Global, site: &mut S, force: bool) -> Result<Reply, Trouble>
+    ensures works { WorksOnSite (judge_row force) (S.seen site.old) (S.seen site.new) result }
     ensures frame { Frame (S.seen site.old) (S.seen site.new) }
     ensures cause { IsErrOf result Trouble.Fault → Rose (S.seen site.old).faults (S.seen site.new).faults }
 {
-    match judge_partition(site) {
+    match judge_partition(site, force) {
         Ok(answer) => {
             let reply = Reply::new(alloc, &answer)?;
             Ok(reply)
@@ -78,7 +80,10 @@ fn work<S: Site, L: Link, P: Ports>(
             let reply = Reply::new(alloc, &Answer::Refused(Refusal::NotCommand))?;
             Ok(reply)
         }
-        Some(Command::Judge) => judge_reply(alloc, site),
+        Some(Command::Image { arch, number, file }) => make_image(alloc, site, arch, number, &file),
+        Some(Command::Judge { force }) => judge_reply(alloc, site, force),
+        Some(Command::Clear { force }) => clear_dump(alloc, site, force),
+        Some(Command::Save { options, keep }) => save_dump(alloc, site, options, keep),
         Some(Command::Dump { image }) => dump_image(alloc, site, &image),
         Some(
             Command::Read {
@@ -114,7 +119,9 @@ fn carry_out<S: Site, L: Link, P: Ports, O: Sink>(
 
 /// Does what the words ask for, prints its text and answers its status.
 ///
-/// `savecore -C` judges the partition and prints `dump LENGTH`, or the refusal with status 1. `dump IMAGE` writes the dump of a machine image,
+/// `image ARCH NUMBER FILE` writes the image that is made of a number and prints `image FILE BYTES`. `savecore -C` judges
+/// the partition and prints `dump LENGTH`, or the refusal with status 1; `savecore -c` marks its dump as saved and prints
+/// `cleared`; `savecore` saves the dump to files, marks it unless `-k` is given, and prints `saved vmcore.N LENGTH`. `dump IMAGE` writes the dump of a machine image,
 /// of that file or made, and prints `dumped LENGTH`. `read FILE ADDRESS LENGTH` prints the bytes of
 /// a saved minidump at kernel addresses, 16 a line; an address that has no byte is refused with 1. A partition that
 /// can't hold a dump, a file that is no image or no minidump, and a partition without room are refused with 65, words

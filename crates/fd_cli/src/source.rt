@@ -17,8 +17,8 @@ pub enum Source {
     Made { arch: Arch, number: u64 },
 }
 
-// The architecture that a word names: `amd64`, `arm64` or `riscv`.
-fn read_arch(word: &[u8]) -> Option<Arch>
+/// The architecture that a word names: `amd64`, `arm64` or `riscv`.
+pub(crate) fn read_arch(word: &[u8]) -> Option<Arch>
     ensures { result ≡ arch_of word.now }
 {
     match word {

@@ -1,0 +1,62 @@
+//! What is printed.
+
+ghost use Rattle.std.specs.Prelude.{◌≡◌, ◌≤◌, length};
+ghost use Rattle.fd_cli.specs.Ending.{answer_text};
+ghost use Rattle.fd_cli.specs.Reply.{text_bytes};
+ghost use Rattle.fd_cli.specs.declared.answer.Answer.TheVariants.{Made, Saved};
+
+use crate::word::Word;
+use arrayvec::ArrayString;
+use fd_info::vmcore_name;
+use itoa::Buffer;
+
+/// A line that is made without memory, so behind a write too.
+pub(crate) type Line = ArrayString<96>;
+
+/// What is printed.
+#[derive(Drop)]
+pub(crate) enum Text {
+    /// Lines that took memory.
+    Lines(Vec<u8>),
+    /// One line that took none.
+    Line(Line),
+}
+
+impl Text {
+    /// Its bytes.
+    pub(crate) fn as_slice(&self) -> &[u8]
+        ensures { result.now ≡ text_bytes self.now }
+    {
+        match self {
+            Text::Lines(lines) => lines.as_slice(),
+            Text::Line(line) => line.as_str().as_bytes(),
+        }
+    }
+}
+
+/// The line of an image that was written to a file of this name.
+pub(crate) fn image_line(file: &Word, length: u64) -> Line
+    requires { length file.now ≤ 64 }
+    ensures { result.bytes ≡ answer_text (Made file.now length) }
+{
+    let mut line = Line::new();
+    line.push_str("image ");
+    line.push_str(file.as_str());
+    line.push_str(" ");
+    line.push_str(Buffer::new().format(length));
+    line.push('\n');
+    line
+}
+
+/// The line of a dump that was saved under a number.
+pub(crate) fn saved_line(number: u32, length: u64) -> Line
+    ensures { result.bytes ≡ answer_text (Saved number length) }
+{
+    let mut line = Line::new();
+    line.push_str("saved ");
+    line.push_str(vmcore_name(number).as_str());
+    line.push_str(" ");
+    line.push_str(Buffer::new().format(length));
+    line.push('\n');
+    line
+}
