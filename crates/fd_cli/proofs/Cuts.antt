@@ -15,7 +15,7 @@ use Rattle.fd_dump.proofs.Sizes.{minidump_pages, minidump_some}
 use Rattle.fd_dump.proofs.Headers.{header_within_fields}
 use Rattle.fd_part.specs.Partition.{is_good}
 use Rattle.fd_part.proofs.Blocks.{IsBlock-good}
-use Rattle.fd_judge.specs.Crash.{IsHeaderFor, IsRefusedOrThis}
+use Rattle.fd_judge.specs.Crash.{IsHeaderFor, IsRefusedOrThis, IsThisDump}
 use Rattle.fd_judge.proofs.Calls.{each_cut_of_call, each_cut_of_nothing, this_after_call}
 use Rattle.fd_cli.specs.Crash.{IsCutOfDump, IsFound, IsRefusedOrNamed}
 use Rattle.fd_cli.specs.Ending.{Answered, Call, Ends}
@@ -88,16 +88,20 @@ pub each_dump_is_safe : EachDumpIsSafe
 each_dump_is_safe source found new sized left = each_cut found source left.added new sized left.leaves left.told
 
 -- a whole dump is found
+pub whole_is_found : (found : Seen) (source : Source) (w : Work) (new : Option Contents) → IsSized found → (whole : IsWhole source found w)
+    → new ≡ with_entries found.told w.added.entries → (was now : Contents) → found.told ≡ Some was → new ≡ Some now
+    → IsThisDump (minidump_of whole.image) (header_of whole.image found.block) found.block (part_of now)
+whole_is_found found source w new sized whole told was now told_was told_now =
+    let image = image_of found source whole.image whole.given was told_was in
+    let header = header_for whole.image found.size found.block image.valid whole.good in
+    this_after_call found.told new was now told_was told_now (minidump_of whole.image) (header_of whole.image found.block) found.size found.block
+    (sized was told_was) whole.good whole.room header (w.added.entries, whole.dumps.is_dump, told)
+
 found_after : (found : Seen) (source : Source) (w : Work) (new : Option Contents) → IsSized found → IsWhole source found w
     → new ≡ with_entries found.told w.added.entries → IsFound found.told new source found.block
 found_after found source w new sized whole told was now told_was told_now =
     let image = image_of found source whole.image whole.given was told_was in
-    let header = header_for whole.image found.size found.block image.valid whole.good in (
-      whole.image,
-      image.names,
-      this_after_call found.told new was now told_was told_now (minidump_of whole.image) (header_of whole.image found.block) found.size found.block
-          (sized was told_was) whole.good whole.room header (w.added.entries, whole.dumps.is_dump, told),
-    )
+    (whole.image, image.names, whole_is_found found source w new sized whole told was now told_was told_now)
 
 not_74 : (status : ℕ) → status ≡ 74 → status ≡ 0 → ⊥
 not_74 status is zero = omega (arith, is, zero)

@@ -1,4 +1,5 @@
 mod Calls
+mod Cleared
 mod Composed
 mod Cuts
 mod Dumps
@@ -9,3 +10,4 @@ mod Reading
 mod Refused
 mod Saves
 mod Sound
+mod Stopped

@@ -1,12 +1,15 @@
 -- The work of `savecore`, by its functions' outcomes, and what it comes to.
 use Rattle.std.proofs.Common.{◌≡◌, ◌⊎◌, inl, inr, ℕ, Bool, true, false, IsTrue, List, [], ◌++◌, Option, Some, None, Result, Ok, Err, refl, sym, ◌∙◌, ap, subst}
 use Rattle.fd_site.specs.Begun.{IsBegun}
-use Rattle.fd_site.specs.Contents.{Adds, Contents, with_entries}
+use Rattle.fd_site.specs.Contents.{Adds, Contents, part_of, with_entries}
 use Rattle.fd_site.specs.Journal.{Entry}
 use Rattle.fd_site.specs.Seen.{Seen}
 use Rattle.fd_site.proofs.Begun.{IsBegun-behind, IsBegun-within}
 use Rattle.fd_site.proofs.Told.{with_entries-append, with_entries-nil}
 use Rattle.fd_part.specs.Partition.{is_good}
+use Rattle.fd_kdh.specs.declared.header.Header.{Header}
+use Rattle.fd_judge.specs.Verdict.{judged}
+use Rattle.fd_judge.specs.declared.verdict.Verdict.TheVariants as verdict
 use Rattle.fd_judge.specs.declared.why.Why.{Why}
 use Rattle.fd_save.specs.Outcome as save
 use Rattle.fd_save.specs.Saving.{clearing}
@@ -225,3 +228,24 @@ refused_or_cleared force found w does =
       | inr clears ↦ inr (good, clears)
     ])
     (λ bad refused. inl (_, refused))
+
+-- over a partition that judging refuses, `savecore` refuses it for that
+pub judged_refused : (options : Options) (keep : Bool) (found : Seen) (w : Work) (c : Contents) (why : Why) → found.told ≡ Some c → IsTrue (is_good found.size found.block)
+    → judged (part_of c) found.block options.force ≡ verdict.Refused why → (save_row options keep).Does found w → Refuses (Judged why) w
+judged_refused options keep found w c why told good is does =
+    either (is_good found.size found.block) (SavesJudged options keep found w) _ (Refuses (Judged why) w) does
+    (λ good judges. elim judges [
+      | inl refused ↦ subst (λ (y : Why). Refuses (Judged y) w) (one_reason refused.why (sym (refused.judged c told) ∙ is)) refused.refuses
+      | inr (inl none) ↦ no_dump none.none.header none.none.at none.none.sector (sym (none.none.found c told) ∙ is)
+      | inr (inr saves) ↦ no_dump saves.saved.header saves.saved.at saves.saved.sector (sym (saves.to_save.finds c told) ∙ is)
+    ])
+    (λ bad refused. absurd (not_both (is_good found.size found.block) good bad))
+  where
+    one_reason : (other : Why) → verdict.Refused other ≡ verdict.Refused why → other ≡ why
+    one_reason other is = cc
+
+    no_dump : {R : Type 0} (h : Header) (at : ℕ) (sector : List ℕ) → verdict.Dump h at sector ≡ verdict.Refused why → R
+    no_dump h at sector is = absurd (cc)
+
+    not_both : (b : Bool) → b ≡ true → b ≡ false → ⊥
+    not_both b yes_it_is no_it_is = cc

@@ -1,5 +1,5 @@
 -- Laws over rows: what holds of every row, and what follows where calls come one after another.
-use Rattle.std.specs.Prelude.{◌≡◌, ◌⊎◌, ℕ, ◌≤◌, Bool, false, List, [], length, Option, Some}
+use Rattle.std.specs.Prelude.{◌≡◌, ◌⊎◌, ℕ, ◌≤◌, Bool, false, List, [], length, Option, Some, None}
 use Rattle.fd_site.specs.Contents.{Contents, Told, part_of, with_entries}
 use Rattle.fd_site.specs.Cut.{Disk, EachCutOf, IsCut}
 use Rattle.fd_site.specs.Seen.{Seen}
@@ -13,7 +13,8 @@ use Rattle.fd_info.specs.Name.{vmcore_name}
 use Rattle.fd_info.specs.Saved.{IsSaved}
 use Rattle.fd_save.specs.Saving.{device_name, parity_of}
 use Rattle.fd_save.specs.declared.saved.Options.{Options}
-use Rattle.fd_cli.specs.Crash.{IsCutOfDump}
+use Rattle.fd_judge.specs.declared.why.Why.TheVariants.{Cleared}
+use Rattle.fd_cli.specs.Crash.{IsCutOfDump, IsCutOfSavecore, LeavesSavedFiles}
 use Rattle.fd_cli.specs.Ending.{Call, answer_status}
 use Rattle.fd_cli.specs.Row.{Added, Grew, Outside, Row, Work, nothing}
 use Rattle.fd_cli.specs.Rows.{row_of}
@@ -25,6 +26,7 @@ use Rattle.fd_cli.specs.Rows.Save.{save_row}
 use Rattle.fd_cli.specs.declared.answer.Answer.TheVariants.{Dump, Saved}
 use Rattle.fd_cli.specs.declared.command.Command.{Command}
 use Rattle.fd_cli.specs.declared.refusal.Refusal.{Refusal}
+use Rattle.fd_cli.specs.declared.refusal.Refusal.TheVariants.{Judged}
 use Rattle.fd_cli.specs.declared.source.Source.{Source}
 
 -- whatever a row's work was, it left what the row may leave; and it may end without a word
@@ -88,8 +90,8 @@ pub record IsFoundAs (disk : Disk) (size block : ℕ) (found : Seen) : Type 0 wh
   pub contents : Contents
   pub told : found.told ≡ Some contents
   pub part : part_of contents ≡ disk.part
-  pub size : found.size ≡ size
-  pub block : found.block ≡ block
+  pub size_is : found.size ≡ size
+  pub block_is : found.block ≡ block
 
 -- `savecore` was refused, or it saved exactly the minidump of the image that the source named, and its info
 pub record IsWhollySaved (c : Contents) (source : Source) (found : Seen) (w : Work) : Type 0 where
@@ -112,3 +114,23 @@ EachCutDumpIsSavedWhole =
     → IsClear (part_of was) found.block
     → (k : ℕ) (these : List Bool) (disk : Disk) → length was.journal ≤ k → IsCut now k these disk → IsFoundAs disk found.size found.block later
     → (save_row options keep).Does later save → IsRefusedOrWhollySaved was source later save
+
+-- wherever a machine stops in what `savecore` left, the dump that judging found stands
+abbrev pub EachSavecoreIsSafe : Type 0
+EachSavecoreIsSafe =
+    (options : Options) (keep : Bool) (found : Seen) (new : Option Contents) → IsSized found → Left (save_row options keep) found new
+    → EachCutOf found.told new (IsCutOfSavecore options found.block)
+
+-- without a maximum, what `savecore` left has no entry on a file of another saved dump
+abbrev pub EachSavedFileIsLeft : Type 0
+EachSavedFileIsLeft =
+    (options : Options) (keep : Bool) (found : Seen) (new : Option Contents) → options.max ≡ None → IsSized found
+    → Left (save_row options keep) found new → LeavesSavedFiles found.told new
+
+-- after a `savecore` that saved a dump and didn't keep it, one without force is refused: the dump is cleared
+abbrev pub ClearedIsRefused : Type 0
+ClearedIsRefused =
+    (options again : Options) (keep : Bool) (found : Seen) (save next : Work)
+    → IsSized found → (save_row options false).Does found save → answer_status save.answer ≡ 0
+    → again.force ≡ false → (save_row again keep).Does (after found save) next
+    → Told found.told (λ c. Refuses (Judged Cleared) next)

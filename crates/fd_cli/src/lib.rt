@@ -30,6 +30,8 @@ pub use source::Source;
 pub use word::Word;
 
 #[cfg(test)]
+mod crowded_tests;
+#[cfg(test)]
 mod dump_tests;
 #[cfg(test)]
 mod image_files;
@@ -37,6 +39,8 @@ mod image_files;
 mod image_tests;
 #[cfg(test)]
 mod read_tests;
+#[cfg(test)]
+mod save_tests;
 #[cfg(test)]
 mod table_tests;
 #[cfg(test)]

@@ -1,12 +1,12 @@
 //! The program's work as one call.
 
-ghost use Rattle.std.specs.Prelude.{◌≡◌, ◌≤◌, ℕ, IsErrOf, IsTrue, List, Some};
+ghost use Rattle.std.specs.Prelude.{◌≡◌, ◌≤◌, ℕ, Bool, IsErrOf, IsTrue, List, Some, None};
 ghost use Rattle.fd_site.specs.Cut.{EachCutOf};
 ghost use Rattle.fd_site.specs.Fault.{Rose};
 ghost use Rattle.fd_site.specs.Name.{is_good_name};
 ghost use Rattle.fd_site.specs.Seen.{Frame};
 ghost use Rattle.fd_cli.specs.Command.{command_of};
-ghost use Rattle.fd_cli.specs.Crash.{IsCutOfDump, IsFound};
+ghost use Rattle.fd_cli.specs.Crash.{IsCutOfDump, IsCutOfSavecore, IsFound, LeavesSavedFiles};
 ghost use Rattle.fd_cli.specs.Ending.{Call, Ends};
 ghost use Rattle.fd_cli.specs.Reply.{Worked, WorksOnSite};
 ghost use Rattle.fd_cli.specs.Row.{outside, reach};
@@ -16,11 +16,13 @@ ghost use Rattle.fd_cli.specs.Rows.Judge.{judge_row};
 ghost use Rattle.fd_cli.specs.Rows.Read.{read_row};
 ghost use Rattle.fd_cli.specs.declared.command.Command.TheVariants as command;
 ghost use Rattle.fd_cli.specs.declared.source.Source.{Source};
+ghost use Rattle.fd_save.specs.declared.saved.Options.{Options};
 
 use crate::answer::Answer;
 use crate::command::{Command, read_command};
 use crate::dump_image::dump_image;
 use crate::judge_partition::judge_partition;
+use crate::laws::{each_saved_file_is_left, each_savecore_is_safe};
 use crate::make_image::make_image;
 use crate::read_memory::read_memory;
 use crate::refusal::Refusal;
@@ -121,12 +123,13 @@ fn carry_out<S: Site, L: Link, P: Ports, O: Sink>(
 ///
 /// `image ARCH NUMBER FILE` writes the image that is made of a number and prints `image FILE BYTES`. `savecore -C` judges
 /// the partition and prints `dump LENGTH`, or the refusal with status 1; `savecore -c` marks its dump as saved and prints
-/// `cleared`; `savecore` saves the dump to files, marks it unless `-k` is given, and prints `saved vmcore.N LENGTH`. `dump IMAGE` writes the dump of a machine image,
-/// of that file or made, and prints `dumped LENGTH`. `read FILE ADDRESS LENGTH` prints the bytes of
-/// a saved minidump at kernel addresses, 16 a line; an address that has no byte is refused with 1. A partition that
-/// can't hold a dump, a file that is no image or no minidump, and a partition without room are refused with 65, words
-/// that are no command with 64. Status 74 says that the site or the sink failed, and a part of the text may then have
-/// been printed; status 71 that no memory was found. Only with 0 and 74 something was written.
+/// `cleared`; `savecore` saves the dump to files, marks it unless `-k` is given, and prints `saved vmcore.N LENGTH`, or is
+/// refused with 69 where no number is free. `dump IMAGE` writes the dump of a machine image, of that file or made, and prints
+/// `dumped LENGTH`. `read FILE ADDRESS LENGTH` prints the bytes of a saved minidump at kernel addresses, 16 a line; an address
+/// that has no byte is refused with 1. A partition that can't hold a dump, a file that is no image or no minidump, and a
+/// partition without room are refused with 65, words that are no command with 64. Status 74 says that the site or the sink
+/// failed, and a part of the text may then have been printed; status 71 that no memory was found. Only with 0 and 74 something
+/// was written.
 pub fn crashway<S: Site, L: Link, P: Ports, O: Sink>(
     alloc: Global,
     words: &[Word],
@@ -138,8 +141,12 @@ pub fn crashway<S: Site, L: Link, P: Ports, O: Sink>(
     ensures call { Call (row_of (command_of words.now)) (outside (S.seen site.old) (L.seen link.old) (P.seen ports.old) (O.seen out.old)) (outside (S.seen site.new) (L.seen link.new) (P.seen ports.new) (O.seen out.new)) result }
     ensures crash { (source : Source) → command_of words.now ≡ Some (command.Dump source) → EachCutOf (S.seen site.old).told (S.seen site.new).told (IsCutOfDump source (S.seen site.old).block) }
     ensures found { (source : Source) → command_of words.now ≡ Some (command.Dump source) → result ≡ 0 → IsFound (S.seen site.old).told (S.seen site.new).told source (S.seen site.old).block }
+    ensures stopped { (options : Options) (keep : Bool) → command_of words.now ≡ Some (command.Save options keep) → EachCutOf (S.seen site.old).told (S.seen site.new).told (IsCutOfSavecore options (S.seen site.old).block) }
+    ensures others { (options : Options) (keep : Bool) → command_of words.now ≡ Some (command.Save options keep) → options.max ≡ None → LeavesSavedFiles (S.seen site.old).told (S.seen site.new).told }
     ensures reads { (name : List ℕ) (va count : ℕ) → command_of words.now ≡ Some (command.Read name va count) → OfImage (S.seen site.old) name (λ m. Ends (image_read_row m va count) (outside (S.seen site.old) (L.seen link.old) (P.seen ports.old) (O.seen out.old)) (outside (S.seen site.new) (L.seen link.new) (P.seen ports.new) (O.seen out.new)) result) }
 {
     each_read_of_a_minidump_is_the_images();
+    each_savecore_is_safe();
+    each_saved_file_is_left();
     carry_out(alloc, words, site, link, ports, out)
 }

@@ -35,15 +35,15 @@ impl Text {
 }
 
 /// The line of an image that was written to a file of this name.
-pub(crate) fn image_line(file: &Word, length: u64) -> Line
+pub(crate) fn image_line(file: &Word, size: u64) -> Line
     requires { length file.now ≤ 64 }
-    ensures { result.bytes ≡ answer_text (Made file.now length) }
+    ensures { result.bytes ≡ answer_text (Made file.now size) }
 {
     let mut line = Line::new();
     line.push_str("image ");
     line.push_str(file.as_str());
     line.push_str(" ");
-    line.push_str(Buffer::new().format(length));
+    line.push_str(Buffer::new().format(size));
     line.push('\n');
     line
 }
