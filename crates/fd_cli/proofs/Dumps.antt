@@ -1,31 +1,35 @@
 -- The work of `dump` and of `read`, by their functions' outcomes.
-use Rattle.std.proofs.Common.{◌≡◌, inl, inr, ℕ, ◌<◌, true, false, IsErrOf, List, [], length, Option, Some, None, Result, Ok, Err, refl, sym, ◌∙◌, ap, subst, arith}
+use Rattle.std.proofs.Common.{◌≡◌, inl, inr, ℕ, ◌<◌, Bool, true, false, IsErrOf, List, [], length, Option, Some, None, Result, Ok, Err, refl, sym, ◌∙◌, ap, subst, arith}
 use Rattle.std.proofs.lemmas.Bool.Decides.{nat_tests}
-use Rattle.fd_site.specs.Contents.{Contents, Told, file_of}
+use Rattle.fd_site.specs.Contents.{Adds, Contents, Told, file_of}
 use Rattle.fd_site.specs.Seen.{Seen, Untouched}
 use Rattle.fd_site.proofs.Told.{with_entries-nil}
 use Rattle.fd_image.specs.Image.{MachineImage, IsValid}
 use Rattle.fd_imgfile.specs.Reading.{IsReading}
 use Rattle.fd_imgfile.specs.declared.fault.ImageFault.{ImageFault}
 use Rattle.fd_dump.specs.Minidump.{minidump_of}
-use Rattle.fd_part.specs.Outcome.{OnNoRoom}
+use Rattle.fd_dump.specs.Header.{header_of}
+use Rattle.fd_kdh.specs.declared.header.Header.{Header}
+use Rattle.fd_part.specs.Dump.{IsDumpJournal}
+use Rattle.fd_part.specs.Outcome.{OnNoRoom, OnStopped, OnWhole}
 use Rattle.fd_part.specs.Partition.{has_room, is_good, need_of}
 use Rattle.fd_part.specs.declared.outcome.NoRoom.{NoRoom}
 use Rattle.fd_part.specs.declared.outcome.PartFault.{PartFault}
 use Rattle.fd_part.specs.declared.outcome.PartFault.TheVariants as part
 use Rattle.fd_part.specs.declared.outcome.Wrote.{Wrote}
+use Rattle.fd_part.specs.declared.outcome.Wrote.TheVariants.{Stopped, Whole}
 use Rattle.fd_cli.specs.Reply.{IsReplyOf, SiteReplies, WorksOnSite}
 use Rattle.fd_cli.specs.Rows.Dump.{DumpsSource, IsGiven, IsNamed, Names, RefusesImage, dump_row, image_dump_row, no_room}
 use Rattle.fd_cli.specs.Rows.Read.{IsReadAnswer, read_row}
 use Rattle.fd_cli.specs.declared.answer.Answer.{Answer}
-use Rattle.fd_cli.specs.declared.answer.Answer.TheVariants.{Refused}
+use Rattle.fd_cli.specs.declared.answer.Answer.TheVariants.{Dumped, Refused}
 use Rattle.fd_cli.specs.declared.refusal.Refusal.TheVariants as refusal
 use Rattle.fd_cli.specs.declared.reply.Reply.{Reply}
 use Rattle.fd_cli.specs.declared.reply.Trouble.{Trouble}
 use Rattle.fd_cli.specs.declared.reply.Trouble.TheVariants.{Fault, NoMemory}
 use Rattle.fd_cli.specs.declared.source.Source.{Source}
 use Rattle.fd_cli.specs.declared.source.Source.TheVariants.{File, Made}
-use Rattle.fd_cli.proofs.Good.{on_false, over_bad, over_good}
+use Rattle.fd_cli.proofs.Good.{on_false, on_true, over_bad, over_good}
 
 -- what a writer's answer says of no room
 pub on_no_room : (fault : PartFault) (room : NoRoom) (P : Type 0) → fault ≡ part.NoRoom room → OnNoRoom (Err fault) P → P
@@ -54,6 +58,37 @@ refused_for_room old new m body fault room reply fault_is body_is short numbers 
       does = on_false _ _ _ short_is refl;
       told = ap (λ s. s.told) same ∙ with_entries-nil old.told;
       is = subst (λ r. IsReplyOf (Refused (refusal.NoRoom r)) reply) room_is is;
+    }
+
+-- a partition without room for a dump isn't written whole
+has_its_room : (found : Seen) (len : ℕ) → (found.size < need_of found.block len → ⊥) → (has : Bool) → has_room found.size found.block len ≡ has
+    → has_room found.size found.block len ≡ true
+has_its_room found len never true is = is
+has_its_room found len never false is = absurd (never (grind (arith, nat_tests, is)))
+
+not_refused : (wrote : Wrote) (fault : PartFault) → IsErrOf {T = Wrote} {E = PartFault} (Ok wrote) fault → ⊥
+not_refused wrote fault is = cc
+
+-- the dump was written
+pub dump_done : (old new : Seen) (m : MachineImage) (body : List ℕ) (h : Header) (len : ℕ) (wrote : Wrote) (reply : Reply) → body ≡ minidump_of m
+    → h ≡ header_of m old.block → len ≡ length (minidump_of m)
+    → (old.size < need_of old.block (length body)
+    → IsErrOf {T = Wrote} {E = PartFault} (Ok wrote) (part.NoRoom (record { need = need_of old.block (length body); have = old.size })))
+    → OnWhole (Ok wrote) (Adds (IsDumpJournal body h old.size old.block) old.told new.told) → OnStopped (Ok wrote) ⊥ → IsReplyOf (Dumped len) reply
+    → SiteReplies (image_dump_row m) old new reply
+dump_done old new m body h len Stopped reply body_is h_is len_is room whole stopped is = absurd stopped
+dump_done old new m body h len Whole reply body_is h_is len_is room adds stopped is =
+    let never : old.size < need_of old.block (length (minidump_of m)) → ⊥ = λ short. not_refused Whole _ (room (subst (λ b. old.size < need_of old.block (length b)) (sym body_is) short)) in
+    record {
+      answer = Dumped (length (minidump_of m));
+      entries = adds.0;
+      does = on_true _ _ _ (has_its_room old (length (minidump_of m)) never _ refl) (record {
+        answer = refl;
+        is_dump = subst (λ b. IsDumpJournal b (header_of m old.block) old.size old.block adds.0) body_is (subst (λ k. IsDumpJournal body k old.size old.block adds.0) h_is adds.1);
+        alone = refl;
+      });
+      told = adds.2;
+      is = subst (λ n. IsReplyOf (Dumped n) reply) len_is is;
     }
 
 -- the partition isn't good

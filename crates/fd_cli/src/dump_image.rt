@@ -78,11 +78,7 @@ fn write_plan<S: Site>(
 }
 
 // The image that a source gives.
-fn take_image<S: Site>(
-    alloc: Global,
-    site: &mut S,
-    source: &Source,
-) -> Result<Image, ImageFault>
+fn take_image<S: Site>(alloc: Global, site: &mut S, source: &Source) -> Result<Image, ImageFault>
     requires { HasGoodName source.now }
     ensures given { IsGiven source.now (S.seen site.old) result }
     ensures untouched { Untouched (S.seen site.old) (S.seen site.new) }

@@ -34,14 +34,6 @@ fn an_image_of_a_number_is_dumped(rt: HostRuntime) -> Result<(), Fail> {
     Ok(())
 }
 
-#[test]
-fn a_machine_of_64_mib_is_dumped(rt: HostRuntime) -> Result<(), Fail> {
-    let alloc = rt.alloc();
-    let mut site = partition(alloc, 67108864, 512)?;
-    let lines = ("dumped 56434688\n", "dump 56434688\n");
-    dumps(&rt, alloc, &mut site, "@arm64:16376", lines)
-}
-
 // Words that are no command, and ask nothing of the site.
 fn is_no_command(rt: &impl Abort, alloc: Global, words: &[&str]) -> Result<(), Fail> {
     let mut site = partition(alloc, 262144, 512)?;

@@ -86,7 +86,10 @@ fn a_vmcore_that_is_cut_anywhere_is_short(rt: HostRuntime) -> Result<(), Fail> {
     // The header page; then the messages, the ranges, the bitmap and the directory; then the pages.
     for (need, lengths) in [
         (4096, [0, 1, 4094, 4095].as_slice()),
-        (20480, [4096, 8191, 8192, 12287, 12288, 16383, 16384, 20479].as_slice()),
+        (
+            20480,
+            [4096, 8191, 8192, 12287, 12288, 16383, 16384, 20479].as_slice(),
+        ),
         (32768, [20480, 24575, 24576, 28671, 28672, 32767].as_slice()),
     ] {
         each_length_is_short(&rt, alloc, &vmcore, need, lengths)?;

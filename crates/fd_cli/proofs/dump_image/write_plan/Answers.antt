@@ -1,6 +1,13 @@
 use Rattle.std.proofs.Common.{◌∙◌, ap}
-use Rattle.fd_cli.proofs.Dumps.{on_no_room, refused_for_room}
+use Rattle.fd_dump.specs.Header.{header_of}
+use Rattle.fd_cli.proofs.Dumps.{dump_done, on_no_room, refused_for_room}
 use Rattle.fd_cli.proofs.dump_image.write_plan.Goals as goal
+
+pub returns-in-Ok-clause-works : goal.returns-in-Ok-clause-works
+returns-in-Ok-clause-works g c =
+    dump_done _ _ c.args.image.now _ _ _ c.in-Ok.field-0 _ c.pieces-pieces.ensures.to_come
+    (c.header-header.ensures.value ∙ ap (header_of c.args.image.now) c.block.ensures) (c.length.ensures c.args.image.now c.requires.plan)
+    c.in-Ok.ensures.room c.in-Ok.ensures.whole c.in-Ok.ensures.stopped c.in_ok-reply.ensures
 
 pub returns-in-Err-NoRoom-clause-works : goal.returns-in-Err-NoRoom-clause-works
 returns-in-Err-NoRoom-clause-works g c =
