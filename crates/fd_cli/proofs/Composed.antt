@@ -77,20 +77,18 @@ SavedLaw =
 
 -- a mark on the partition changes no file
 module _ (c : Contents) (saving : List Entry) (size block : ℕ) (sector : List ℕ) where
-  without : Contents
+  abbrev without : Contents
   without = then_adds c (saving ++ [])
 
-  marked : Contents
+  abbrev marked : Contents
   marked = then_adds c (saving ++ clearing size block sector)
 
   same_file : (q : List ℕ) → file_of without q ≡ file_of marked q
-  unfolding without marked
   same_file q =
       file_after-append q (c.base_file q) c.journal (saving ++ []) ∙ file_after-append q (file_of c q) saving []
       ∙ sym (file_after-append q (c.base_file q) c.journal (saving ++ clearing size block sector) ∙ file_after-append q (file_of c q) saving (clearing size block sector))
 
   same_stable : (q : List ℕ) → stable_after q true without.journal ≡ stable_after q true marked.journal
-  unfolding without marked
   same_stable q =
       stable_after-append q true c.journal (saving ++ []) ∙ stable_after-append q (stable_after q true c.journal) saving []
       ∙ sym (stable_after-append q true c.journal (saving ++ clearing size block sector) ∙ stable_after-append q (stable_after q true c.journal) saving (clearing size block sector))
@@ -100,7 +98,6 @@ module _ (c : Contents) (saving : List Entry) (size block : ℕ) (sector : List 
 
   saved_unless : (keep : Bool) (number : ℕ) (body : List ℕ) (h : Header) (parity : ℕ) → IsSaved marked number body h device_name parity
       → IsSaved (then_adds c (saving ++ clearing_unless keep size block sector)) number body h device_name parity
-  unfolding marked without still
   saved_unless false number body h parity there = there
   saved_unless true number body h parity there = record { vmcore = still (vmcore_name number) body there.vmcore; info = still (info_name number) _ there.info }
 
@@ -118,12 +115,12 @@ all_saved : {saved : Saved} {body : List ℕ} {m : MachineImage} {block : ℕ} (
     → Some (then_adds c entries) ≡ Some now
     → IsSaved (then_adds c entries) number body saved.header device_name (parity_of saved.sector)
     → IsSaved now number (minidump_of m) (header_of m block) device_name (parity_of (dump_header (header_of m block)))
-all_saved {m = m} {block = block} number entries c now of is saved =
+all_saved {saved = dump} {m = m} {block = block} number entries c now of is saved =
     let same : then_adds c entries ≡ now = cc in
     subst (λ (t : Contents). IsSaved t number (minidump_of m) (header_of m block) device_name (parity_of (dump_header (header_of m block)))) same
     (subst (λ (s : List ℕ). IsSaved (then_adds c entries) number (minidump_of m) (header_of m block) device_name (parity_of s)) of.sector
-    (subst (λ (h : Header). IsSaved (then_adds c entries) number (minidump_of m) h device_name (parity_of _)) of.header
-    (subst (λ (b : List ℕ). IsSaved (then_adds c entries) number b _ device_name (parity_of _)) of.body_is saved)))
+    (subst (λ (h : Header). IsSaved (then_adds c entries) number (minidump_of m) h device_name (parity_of dump.sector)) of.header
+    (subst (λ (b : List ℕ). IsSaved (then_adds c entries) number b dump.header device_name (parity_of dump.sector)) of.body_is saved)))
 
 -- a dump that was found where a save was refused
 never : {R : Type 0} (h : Header) (at : ℕ) (sector : List ℕ) (why : Why) → verdict.Dump h at sector ≡ verdict.Refused why → R
@@ -133,7 +130,7 @@ never h at sector why is = absurd (cc)
 refused_then : (options : Options) (keep : Bool) (later : Seen) (w : Work) (c : Contents) (was : Contents) (source : Source) → later.told ≡ Some c → options.force ≡ false
     → IsRefused later.block (part_of c) → (save_row options keep).Does later w → IsRefusedOrWhollySaved was source later w
 refused_then options keep later w c was source told unforced refused does = elim (refused_or_saved options keep later w does) [
-  | inl no ↦ inl no
+  | inl refusal ↦ inl refusal
   | inr saves ↦
     never saves.1.saved.header saves.1.saved.at saves.1.saved.sector refused.0
     (sym (saves.1.to_save.finds c told) ∙ ap (judged (part_of c) later.block) unforced ∙ refused.1)
@@ -144,7 +141,7 @@ saved_then : SavedLaw → (options : Options) (keep : Bool) (later : Seen) (w : 
     → options.force ≡ false → Names was source m → IsThisDump (minidump_of m) (header_of m later.block) later.block (part_of c)
     → (save_row options keep).Does later w → IsRefusedOrWhollySaved was source later w
 saved_then law options keep later w c was source m told unforced names this does = elim (refused_or_saved options keep later w does) [
-  | inl no ↦ inl no
+  | inl refusal ↦ inl refusal
   | inr saves ↦
     let of : IsSaveOf saves.1.saved saves.1.body m later.block = save_of_this options keep later w c m told unforced saves.1 this in
     inr (record {

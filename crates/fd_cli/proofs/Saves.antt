@@ -1,5 +1,5 @@
 -- The work of `savecore`, by its functions' outcomes, and what it comes to.
-use Rattle.std.proofs.Common.{◌≡◌, ◌⊎◌, inl, inr, ℕ, Bool, true, false, IsTrue, List, [], ◌++◌, Option, Some, None, Result, Ok, Err, refl, sym, ◌∙◌, ap, subst}
+use Rattle.std.proofs.Common.{◌≡◌, ◌⊎◌, inl, inr, ℕ, Bool, true, false, IsTrue, IsErrOf, List, [], ◌++◌, Option, Some, None, Result, Ok, Err, refl, sym, ◌∙◌, ap, subst}
 use Rattle.fd_site.specs.Begun.{IsBegun}
 use Rattle.fd_site.specs.Contents.{Adds, Contents, part_of, with_entries}
 use Rattle.fd_site.specs.Journal.{Entry}
@@ -13,6 +13,8 @@ use Rattle.fd_judge.specs.declared.verdict.Verdict.TheVariants as verdict
 use Rattle.fd_judge.specs.declared.why.Why.{Why}
 use Rattle.fd_save.specs.Outcome as save
 use Rattle.fd_save.specs.Saving.{clearing}
+use Rattle.fd_save.specs.declared.fault.SaveFault.{SaveFault}
+use Rattle.fd_save.specs.declared.fault.SaveFault.TheVariants as no
 use Rattle.fd_save.specs.declared.saved.Options.{Options}
 use Rattle.fd_save.specs.declared.saved.Saved.{Saved}
 use Rattle.fd_cli.specs.Reply.{IsReplyOf, SiteLeaves, SiteReplies, WorksOnSite}
@@ -200,6 +202,25 @@ clear_fault force old new good (inr begun) = record {
   });
   told = begun.adds.2;
 }
+
+-- what clearing a dump that isn't kept adds
+pub cleared_unless : (keep : Bool) (size block : ℕ) (sector : List ℕ) (P : List Entry → Type 0) → keep ≡ false → P (clearing size block sector)
+    → P (clearing_unless keep size block sector)
+cleared_unless true size block sector P kept clears = absurd (cc)
+cleared_unless false size block sector P kept clears = clears
+
+-- an answer that is no, by which one it is
+pub is_error : {A : Type 0} (fault one : SaveFault) → fault ≡ one → IsErrOf {T = A} {E = SaveFault} (Err fault) one
+is_error {A = A} fault one is = subst (λ (f : SaveFault). IsErrOf {T = A} {E = SaveFault} (Err fault) f) is refl
+
+pub unchanged_on : (A : Type 0) (fault : SaveFault) (P : Type 0) → fault ≡ no.NoNumber → save.OnNo {A = A} (Err fault) P → P
+unchanged_on A fault P is same = subst (λ (f : SaveFault). save.OnNo {A = A} (Err f) P) is same
+
+pub unchanged_on_refused : (A : Type 0) (fault : SaveFault) (why : Why) (P : Type 0) → fault ≡ no.Refused why → save.OnNo {A = A} (Err fault) P → P
+unchanged_on_refused A fault why P is same = subst (λ (f : SaveFault). save.OnNo {A = A} (Err f) P) is same
+
+pub refused_on : (A : Type 0) (fault : SaveFault) (why : Why) (P : Why → Type 0) → fault ≡ no.Refused why → save.OnRefused {A = A} (Err fault) P → P why
+refused_on A fault why P is refused = subst (λ (f : SaveFault). save.OnRefused {A = A} (Err f) P) is refused
 
 -- what `savecore` comes to: it was refused, or the dump was saved
 abbrev pub IsRefusedOrSaved : Options → (keep : Bool) → Seen → Work → Type 0

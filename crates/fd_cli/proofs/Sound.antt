@@ -66,8 +66,9 @@ clear_leaves force found w does = elim (refused_or_cleared force found w does) [
     at = cleared.1.at;
     sector = cleared.1.sector;
     finds = cleared.1.finds;
-    begun = subst (λ x. IsBegun (clearing found.size found.block cleared.1.sector) x.added.entries) (sym cleared.1.is) (IsBegun-whole _);
-    alone = subst (λ x. x.added ≡ only x.added.entries) (sym cleared.1.is) refl;
+    begun = subst (λ (x : Work). IsBegun (clearing found.size found.block cleared.1.sector) x.added.entries) (sym cleared.1.is)
+        (IsBegun-whole (clearing found.size found.block cleared.1.sector));
+    alone = subst (λ (x : Work). x.added ≡ only x.added.entries) (sym cleared.1.is) refl;
   })
 ]
 

@@ -1,6 +1,7 @@
 -- What a machine leaves that stops in `savecore`, by its row.
 use Rattle.std.proofs.Common.{◌≡◌, inl, inr, ℕ, ◌+◌, ◌≤◌, Bool, true, false, ◌&&◌, not, IsTrue, List, [], ◌∷◌, ◌++◌, length, All, slice_range, Option, Some, None, refl, sym, ◌∙◌, ap, subst}
 use Rattle.std.proofs.lemmas.List.{append-nil, drop_all, take_all}
+use Rattle.std.proofs.lemmas.List.Elements.{All-nil}
 use Rattle.fd_site.specs.Begun.{IsBegun}
 use Rattle.fd_site.specs.Contents.{Contents, file_of, part_of, with_entries}
 use Rattle.fd_site.specs.Cut.{Disk, IsCut, is_on_first}
@@ -123,7 +124,7 @@ each_saved_file_is_left law options keep found new none sized left = elim left.l
   | inl nothing ↦ record {
     added = [];
     told = left.told ∙ ap (λ a. with_entries found.told a.entries) nothing;
-    others = λ was name file told_was named there. tt;
+    others = λ was name file told_was named there. All-nil (λ e. is_on name e ≡ false);
   }
   | inr begun ↦ record {
     added = left.added.entries;

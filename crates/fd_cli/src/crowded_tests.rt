@@ -12,6 +12,7 @@ use std::test::Fail;
 
 // A partition with the two headers of a dump of zeros, and a directory in which each name is a file of one byte. It counts
 // what is asked of it but for reading.
+#[derive(Drop)]
 struct Crowded {
     sector: [u8; 512],
     writes: u32,

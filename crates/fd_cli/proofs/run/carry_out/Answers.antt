@@ -19,9 +19,9 @@ returns-in-Err-NoMemory g c =
 pub returns-in-Ok-put : goal.returns-in-Ok-put
 returns-in-Ok-put g c =
     answered (row_of (command_of c.args.words.now)) _ _ c.in-Ok.reply c.in-Ok.ensures
-    (c.in-Ok-put.ensures.ok ∙ ap (grown (g.O.Sink.seen c.args.out.now).told) c.as_slice.ensures.value) c.put.ensures.count
+    (c.in-Ok-put.ensures.ok ∙ ap (grown (g.O.Sink.seen c.args.out.now).told) c.as_slice.ensures) c.put.ensures.count
 
 pub returns : goal.returns
 returns g c =
-    unprinted (row_of (command_of c.args.words.now)) _ _ c.in-Ok.reply c.in-Ok.ensures _ c.as_slice.ensures.value c.in-Err.ensures.err c.put.ensures.count
+    unprinted (row_of (command_of c.args.words.now)) _ _ c.in-Ok.reply c.in-Ok.ensures _ c.as_slice.ensures c.in-Err.ensures.err c.put.ensures.count
     c.in-Err.ensures.cause
