@@ -71,7 +71,7 @@ save_leaves_part part body h parity number journal s =
     ∙ ap (λ (p : List ℕ). part_after p (s.info ++ s.bounds)) (part_after-on_file (vmcore_name number) part s.vmcore (AllOnFile-whole (vmcore_name number) body s.vmcore s.is_vmcore))
     ∙ part_after-append part s.info s.bounds
     ∙ ap (λ (p : List ℕ). part_after p s.bounds)
-        (part_after-on_file (info_name number) part s.info (AllOnFile-whole (info_name number) (info_text h device_name parity number) s.info s.is_info))
+    (part_after-on_file (info_name number) part s.info (AllOnFile-whole (info_name number) (info_text h device_name parity number) s.info s.is_info))
     ∙ part_after-on_file bounds_name part s.bounds (AllOnFile-whole bounds_name (bounds_text (number + 1)) s.bounds s.is_bounds)
 
 -- a whole sector that was written is there
@@ -105,22 +105,22 @@ pub each_cleared_dump_is_refused : ClearedIsRefused
 each_cleared_dump_is_refused options again keep found save next sized does zero unforced refuses c told = elim (refused_or_saved options false found save does) [
   | inl (refusal, refused) ↦ absurd (refused_not_zero refusal save refused zero)
   | inr (good, saves) ↦
-    let part : List ℕ = part_of c in
-    let size : length part ≡ found.size = sized c told in
-    let sector : List ℕ = saves.saved.sector in
-    let saving : List Entry = saves.entries.saving in
-    let there : trailing_sector part found.block ≡ sector =
-    sector_found part found.block options.force saves.saved.header saves.saved.at sector (saves.to_save.finds c told) in
-    let part_is : part_of (then_adds c save.added.entries) ≡ part_after part (clearing (length part) found.block sector) =
-    part_after-append c.base_part c.journal save.added.entries
-        ∙ ap (part_after part) (saves.entries.is ∙ (λ i. saving ++ clearing (sym size i) found.block sector))
-        ∙ part_after-append part saving (clearing (length part) found.block sector)
-        ∙ ap (λ (p : List ℕ). part_after p (clearing (length part) found.block sector))
-            (save_leaves_part part saves.body saves.saved.header (parity_of sector) saves.saved.number saving saves.entries.is_save) in
-    judged_refused again keep (after found save) next (then_adds c save.added.entries) Cleared (ap (λ t. with_entries t save.added.entries) told)
-    good
-    (ap (judged (part_of (then_adds c save.added.entries)) found.block) unforced
-    ∙ ap (λ (p : List ℕ). judged p found.block false) part_is
-    ∙ marked_is_refused part found.block sector (subst (λ n. IsTrue (is_good n found.block)) (sym size) good) there)
-    refuses
+      let part : List ℕ = part_of c in
+      let size : length part ≡ found.size = sized c told in
+      let sector : List ℕ = saves.saved.sector in
+      let saving : List Entry = saves.entries.saving in
+      let there : trailing_sector part found.block ≡ sector =
+      sector_found part found.block options.force saves.saved.header saves.saved.at sector (saves.to_save.finds c told) in
+      let part_is : part_of (then_adds c save.added.entries) ≡ part_after part (clearing (length part) found.block sector) =
+      part_after-append c.base_part c.journal save.added.entries
+      ∙ ap (part_after part) (saves.entries.is ∙ (λ i. saving ++ clearing (sym size i) found.block sector))
+      ∙ part_after-append part saving (clearing (length part) found.block sector)
+      ∙ ap (λ (p : List ℕ). part_after p (clearing (length part) found.block sector))
+      (save_leaves_part part saves.body saves.saved.header (parity_of sector) saves.saved.number saving saves.entries.is_save) in
+      judged_refused again keep (after found save) next (then_adds c save.added.entries) Cleared (ap (λ t. with_entries t save.added.entries) told)
+      good
+      (ap (judged (part_of (then_adds c save.added.entries)) found.block) unforced
+      ∙ ap (λ (p : List ℕ). judged p found.block false) part_is
+      ∙ marked_is_refused part found.block sector (subst (λ n. IsTrue (is_good n found.block)) (sym size) good) there)
+      refuses
 ]

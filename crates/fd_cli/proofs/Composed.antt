@@ -61,7 +61,7 @@ save_of_this options keep found w c m told unforced saves this =
     let finds : judged part found.block options.force ≡ verdict.Dump saves.saved.header saves.saved.at saves.saved.sector = saves.to_save.finds c told in
     let same : IsSame saves.saved (header_of m found.block) place (dump_header (header_of m found.block)) =
     same_dump saves.saved (header_of m found.block) place (dump_header (header_of m found.block))
-        (sym finds ∙ ap (judged part found.block) unforced ∙ this.verdict) in
+    (sym finds ∙ ap (judged part found.block) unforced ∙ this.verdict) in
     record {
       header = same.header;
       sector = same.sector_is;
@@ -132,8 +132,8 @@ refused_then : (options : Options) (keep : Bool) (later : Seen) (w : Work) (c : 
 refused_then options keep later w c was source told unforced refused does = elim (refused_or_saved options keep later w does) [
   | inl refusal ↦ inl refusal
   | inr saves ↦
-    never saves.1.saved.header saves.1.saved.at saves.1.saved.sector refused.0
-    (sym (saves.1.to_save.finds c told) ∙ ap (judged (part_of c) later.block) unforced ∙ refused.1)
+      never saves.1.saved.header saves.1.saved.at saves.1.saved.sector refused.0
+      (sym (saves.1.to_save.finds c told) ∙ ap (judged (part_of c) later.block) unforced ∙ refused.1)
 ]
 
 -- over a partition that holds this dump, it is refused or saves it
@@ -143,15 +143,15 @@ saved_then : SavedLaw → (options : Options) (keep : Bool) (later : Seen) (w : 
 saved_then law options keep later w c was source m told unforced names this does = elim (refused_or_saved options keep later w does) [
   | inl refusal ↦ inl refusal
   | inr saves ↦
-    let of : IsSaveOf saves.1.saved saves.1.body m later.block = save_of_this options keep later w c m told unforced saves.1 this in
-    inr (record {
-      image = m;
-      names = names;
-      number = saves.1.saved.number;
-      answer = saves.1.answer ∙ ap (λ (h : Header). answer.Saved saves.1.saved.number h.dumplength) of.header;
-      files = λ now is_now. all_saved saves.1.saved.number w.added.entries c now of (sym (ap (λ t. with_entries t w.added.entries) told) ∙ is_now)
-          (saved_after law options keep later w c saves.1);
-    })
+      let of : IsSaveOf saves.1.saved saves.1.body m later.block = save_of_this options keep later w c m told unforced saves.1 this in
+      inr (record {
+        image = m;
+        names = names;
+        number = saves.1.saved.number;
+        answer = saves.1.answer ∙ ap (λ (h : Header). answer.Saved saves.1.saved.number h.dumplength) of.header;
+        files = λ now is_now. all_saved saves.1.saved.number w.added.entries c now of (sym (ap (λ t. with_entries t w.added.entries) told) ∙ is_now)
+            (saved_after law options keep later w c saves.1);
+      })
 ]
 
 -- the headline's first sentence
@@ -160,7 +160,7 @@ each_cut_dump_is_saved_whole law source options keep found later new was now sav
     let block_is : found.block ≡ later.block = sym stands.block_is in
     let judged_cut : IsRefusedOrNamed was source later.block (part_of stands.contents) =
     subst (λ part. IsRefusedOrNamed was source later.block part) (sym stands.part)
-        (subst (λ b. IsRefusedOrNamed was source b disk.part) block_is (each_dump_is_safe source found new sized left was now told_was told_now k these disk le cut clear)) in
+    (subst (λ b. IsRefusedOrNamed was source b disk.part) block_is (each_dump_is_safe source found new sized left was now told_was told_now k these disk le cut clear)) in
     elim judged_cut [
       | inl refused ↦ refused_then options keep later save stands.contents was source stands.told unforced refused does
       | inr (m, names, this) ↦ saved_then law options keep later save stands.contents was source m stands.told unforced names this does

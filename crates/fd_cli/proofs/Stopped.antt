@@ -113,9 +113,9 @@ module _ (options : Options) (keep : Bool) (found : Seen) (added : Added) (begun
 pub each_savecore_is_safe : CutLaw → EachSavecoreIsSafe
 each_savecore_is_safe law options keep found new sized left was now told_was told_now k these disk behind cut = elim left.leaves [
   | inl none ↦
-    let same : new ≡ found.told = left.told ∙ ap (λ a. with_entries found.told a.entries) none ∙ sym (with_entries-nil found.told) in
-    let one : now ≡ was = told_one now was (sym told_now ∙ same ∙ told_was) in
-    inl (as_it_was was k these disk behind (subst (λ (c : Contents). IsCut c k these disk) one cut))
+      let same : new ≡ found.told = left.told ∙ ap (λ a. with_entries found.told a.entries) none ∙ sym (with_entries-nil found.told) in
+      let one : now ≡ was = told_one now was (sym told_now ∙ same ∙ told_was) in
+      inl (as_it_was was k these disk behind (subst (λ (c : Contents). IsCut c k these disk) one cut))
   | inr begun ↦ inr (holds options keep found left.added begun was told_was (sized was told_was) law now (sym told_now ∙ left.told) k these disk behind cut)
 ]
 

@@ -43,4 +43,4 @@ savecore_of words =
     if has_first (codes "-C") words then option_map (λ force. Judge force) (force_of (drop 1 words))
     else if has_first (codes "-c") words then option_map (λ force. Clear force) (force_of (drop 1 words))
     else save_of (has_first (codes "-f") words) (has_first (codes "-k") (behind (codes "-f") words))
-        (max_of (behind (codes "-k") (behind (codes "-f") words)))
+    (max_of (behind (codes "-k") (behind (codes "-f") words)))

@@ -1,5 +1,5 @@
 -- Where a machine image comes from, and the word that says so.
-use Rattle.std.specs.Prelude.{ℕ, ◌&&◌, ◌==◌, Bool, IsTrue, List, drop, slice_index, slice_range, codes, if◌then◌else◌, Option, Some, None}
+use Rattle.std.specs.Prelude.{ℕ, ◌&&◌, ◌==◌, IsTrue, List, drop, slice_index, slice_range, codes, if◌then◌else◌, Option, Some, None}
 use Rattle.std.specs.Str.{bytes_eq}
 use Rattle.fd_bytes.specs.Number.{number_of}
 use Rattle.fd_bytes.specs.declared.arch.Arch.{Arch}

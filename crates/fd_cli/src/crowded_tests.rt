@@ -74,7 +74,14 @@ impl Site for Crowded {
 
 // Without a maximum nothing is written.
 fn has_no_number(rt: &impl Abort, alloc: Global, site: &mut Crowded) -> Result<(), Fail> {
-    check(rt, alloc, site, &["savecore"], 69, "refused 62: no number\n")?;
+    check(
+        rt,
+        alloc,
+        site,
+        &["savecore"],
+        69,
+        "refused 62: no number\n",
+    )?;
     assert_eq!(rt; site.writes, 0);
     check(
         rt,

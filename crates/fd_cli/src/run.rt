@@ -22,7 +22,7 @@ use crate::answer::Answer;
 use crate::command::{Command, read_command};
 use crate::dump_image::dump_image;
 use crate::judge_partition::judge_partition;
-use crate::laws::{each_saved_file_is_left, each_savecore_is_safe};
+use crate::laws::{each_savecore_is_safe, each_saved_file_is_left};
 use crate::make_image::make_image;
 use crate::read_memory::read_memory;
 use crate::refusal::Refusal;

@@ -160,13 +160,55 @@ fn a_number_is_taken_that_is_free(rt: HostRuntime) -> Result<(), Fail> {
     let save = ["savecore"].as_slice();
     let below_5 = ["savecore", "-m", "5"].as_slice();
     for (name, bytes, words, line, next) in [
-        ("vmcore.0", b"x".as_slice(), save, "saved vmcore.1 32768\n", b"2\n".as_slice()),
-        ("info.0", b"x".as_slice(), save, "saved vmcore.1 32768\n", b"2\n".as_slice()),
-        ("bounds", b"65535\n".as_slice(), save, "saved vmcore.65535 32768\n", b"65536\n".as_slice()),
-        ("bounds", b"7\n".as_slice(), below_5, "saved vmcore.0 32768\n", b"1\n".as_slice()),
-        ("bounds", b"4\n".as_slice(), below_5, "saved vmcore.4 32768\n", b"5\n".as_slice()),
-        ("bounds", b"many\n".as_slice(), save, "saved vmcore.0 32768\n", b"1\n".as_slice()),
-        ("vmcore.0", b"x".as_slice(), below_5, "saved vmcore.0 32768\n", b"1\n".as_slice()),
+        (
+            "vmcore.0",
+            b"x".as_slice(),
+            save,
+            "saved vmcore.1 32768\n",
+            b"2\n".as_slice(),
+        ),
+        (
+            "info.0",
+            b"x".as_slice(),
+            save,
+            "saved vmcore.1 32768\n",
+            b"2\n".as_slice(),
+        ),
+        (
+            "bounds",
+            b"65535\n".as_slice(),
+            save,
+            "saved vmcore.65535 32768\n",
+            b"65536\n".as_slice(),
+        ),
+        (
+            "bounds",
+            b"7\n".as_slice(),
+            below_5,
+            "saved vmcore.0 32768\n",
+            b"1\n".as_slice(),
+        ),
+        (
+            "bounds",
+            b"4\n".as_slice(),
+            below_5,
+            "saved vmcore.4 32768\n",
+            b"5\n".as_slice(),
+        ),
+        (
+            "bounds",
+            b"many\n".as_slice(),
+            save,
+            "saved vmcore.0 32768\n",
+            b"1\n".as_slice(),
+        ),
+        (
+            "vmcore.0",
+            b"x".as_slice(),
+            below_5,
+            "saved vmcore.0 32768\n",
+            b"1\n".as_slice(),
+        ),
     ] {
         saves_beside(&rt, alloc, (name, bytes), words, (line, next))?;
     }
