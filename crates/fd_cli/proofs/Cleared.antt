@@ -1,10 +1,9 @@
 -- A dump that was saved and marked is refused.
-use Rattle.std.proofs.Common.{◌≡◌, inl, inr, ℕ, ◌+◌, ◌-◌, ◌%◌, ◌≤◌, Bool, false, IsTrue, List, [], ◌∷◌, ◌++◌, length, take, drop, slice_range, Option, Some, None, Result, Ok, Err, refl, sym, ◌∙◌, ap, subst, arith, length-append, length-drop}
+use Rattle.std.proofs.Common.{◌≡◌, inl, inr, ℕ, ◌+◌, ◌-◌, ◌≤◌, Bool, false, IsTrue, List, ◌++◌, length, take, drop, Option, Some, None, Result, Ok, Err, refl, sym, ◌∙◌, ap, subst, arith, length-append, length-drop}
 use Rattle.std.proofs.lemmas.List.{length-take-le}
 use Rattle.std.proofs.lemmas.Slice.{between-put_mid}
-use Rattle.fd_site.specs.Contents.{Contents, part_of, with_entries}
+use Rattle.fd_site.specs.Contents.{part_of, with_entries}
 use Rattle.fd_site.specs.Journal.{Entry, all_kept, part_after, written}
-use Rattle.fd_site.specs.Seen.{Seen}
 use Rattle.fd_site.proofs.FileJournals.{AllOnFile-whole}
 use Rattle.fd_site.proofs.OnFile.{part_after-on_file}
 use Rattle.fd_site.proofs.Written.{length-written, part_after-append, written-all_kept}
@@ -22,14 +21,8 @@ use Rattle.fd_judge.specs.declared.why.Why.{Why}
 use Rattle.fd_judge.specs.declared.why.Why.TheVariants.{Cleared}
 use Rattle.fd_save.specs.Laws.{then_adds}
 use Rattle.fd_save.specs.Saving.{IsSaveJournal, cleared_sector, clearing, device_name, parity_of}
-use Rattle.fd_save.specs.declared.saved.Options.{Options}
 use Rattle.fd_save.proofs.Places.{trailing_inside}
-use Rattle.fd_cli.specs.Ending.{answer_status}
 use Rattle.fd_cli.specs.Laws.{ClearedIsRefused, after}
-use Rattle.fd_cli.specs.Row.{Work}
-use Rattle.fd_cli.specs.Rows.Common.{Refuses}
-use Rattle.fd_cli.specs.Rows.Save.{Saves, save_row}
-use Rattle.fd_cli.specs.declared.refusal.Refusal.TheVariants.{Judged}
 use Rattle.fd_cli.proofs.Outcomes.{refused_not_zero}
 use Rattle.fd_cli.proofs.Saves.{judged_refused, refused_or_saved}
 

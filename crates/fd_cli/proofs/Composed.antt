@@ -1,7 +1,6 @@
 -- What is saved of a dump, whole or cut, and read again.
-use Rattle.std.proofs.Common.{◌≡◌, ◌⊎◌, inl, inr, ℕ, ◌+◌, Bool, true, false, List, [], ◌∷◌, ◌++◌, length, slice_range, Option, Some, refl, sym, ◌∙◌, ap, subst}
-use Rattle.fd_site.specs.Contents.{Contents, Told, file_of, part_of, with_entries}
-use Rattle.fd_site.specs.Cut.{Disk, IsCut}
+use Rattle.std.proofs.Common.{◌≡◌, inl, inr, ℕ, ◌+◌, Bool, true, false, List, [], ◌++◌, length, slice_range, Some, refl, sym, ◌∙◌, ap, subst}
+use Rattle.fd_site.specs.Contents.{Contents, file_of, part_of, with_entries}
 use Rattle.fd_site.specs.Journal.{Entry, stable_after}
 use Rattle.fd_site.specs.Seen.{Seen}
 use Rattle.fd_site.proofs.Told.{file_after-append, stable_after-append}
@@ -10,7 +9,7 @@ use Rattle.fd_kdh.specs.Header.{dump_header}
 use Rattle.fd_kdh.specs.declared.header.Header.{Header}
 use Rattle.fd_dump.specs.Header.{header_of}
 use Rattle.fd_dump.specs.Minidump.{minidump_of}
-use Rattle.fd_part.specs.Partition.{IsClear, dump_place}
+use Rattle.fd_part.specs.Partition.{dump_place}
 use Rattle.fd_judge.specs.Crash.{IsRefused, IsThisDump}
 use Rattle.fd_judge.specs.Verdict.{judged}
 use Rattle.fd_judge.specs.declared.why.Why.{Why}
@@ -24,10 +23,8 @@ use Rattle.fd_save.specs.declared.saved.Saved.{Saved}
 use Rattle.fd_cli.specs.Crash.{IsRefusedOrNamed}
 use Rattle.fd_cli.specs.Laws.{EachCutDumpIsSavedWhole, IsRefusedOrWhollySaved, ReadsWhatWasDumped, after}
 use Rattle.fd_cli.specs.Row.{Work}
-use Rattle.fd_cli.specs.Rows.Common.{Refuses}
 use Rattle.fd_cli.specs.Rows.Dump.{Names}
 use Rattle.fd_cli.specs.Rows.Save.{Saves, clearing_unless, save_row}
-use Rattle.fd_cli.specs.declared.answer.Answer.{Answer}
 use Rattle.fd_cli.specs.declared.answer.Answer.TheVariants as answer
 use Rattle.fd_cli.specs.declared.refusal.Refusal.{Refusal}
 use Rattle.fd_cli.specs.declared.source.Source.{Source}

@@ -4,7 +4,7 @@ use Rattle.std.specs.Bool.{OnTrue}
 use Rattle.fd_bytes.specs.Arch.{name_of, header_version_of, arch_of_header}
 use Rattle.fd_bytes.specs.declared.arch.Arch.{Arch}
 use Rattle.fd_bytes.specs.declared.arch.Arch.TheVariants.{Amd64, Arm64, Riscv}
-use Rattle.fd_site.specs.Contents.{Contents, Told, with_entries}
+use Rattle.fd_site.specs.Contents.{Contents, Told, part_of, with_entries}
 use Rattle.fd_site.specs.Cut.{EachCutOf}
 use Rattle.fd_site.specs.Seen.{Seen}
 use Rattle.fd_site.proofs.Told.{with_entries-nil}

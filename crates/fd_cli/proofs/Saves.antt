@@ -1,5 +1,5 @@
 -- The work of `savecore`, by its functions' outcomes, and what it comes to.
-use Rattle.std.proofs.Common.{◌≡◌, ◌⊎◌, inl, inr, ℕ, Bool, true, false, IsTrue, IsErrOf, List, [], ◌++◌, Option, Some, None, Result, Ok, Err, refl, sym, ◌∙◌, ap, subst}
+use Rattle.std.proofs.Common.{◌≡◌, ◌⊎◌, inl, inr, ℕ, Bool, true, false, IsTrue, IsErrOf, List, [], ◌++◌, Some, Result, Ok, Err, refl, sym, ◌∙◌, ap, subst}
 use Rattle.fd_site.specs.Begun.{IsBegun}
 use Rattle.fd_site.specs.Contents.{Adds, Contents, part_of, with_entries}
 use Rattle.fd_site.specs.Journal.{Entry}
@@ -18,10 +18,10 @@ use Rattle.fd_save.specs.declared.fault.SaveFault.TheVariants as no
 use Rattle.fd_save.specs.declared.saved.Options.{Options}
 use Rattle.fd_save.specs.declared.saved.Saved.{Saved}
 use Rattle.fd_cli.specs.Reply.{IsReplyOf, SiteLeaves, SiteReplies, WorksOnSite}
-use Rattle.fd_cli.specs.Row.{Row, Work, nothing, only}
+use Rattle.fd_cli.specs.Row.{Row, Work, only}
 use Rattle.fd_cli.specs.Rows.Clear.{Clears, ClearsJudged, clear_row, judged_clear_row}
 use Rattle.fd_cli.specs.Rows.Common.{OnGood, Refuses}
-use Rattle.fd_cli.specs.Rows.Save.{IsToSave, Saves, SavesJudged, clearing_unless, judged_save_row, save_row}
+use Rattle.fd_cli.specs.Rows.Save.{Saves, SavesJudged, clearing_unless, judged_save_row, save_row}
 use Rattle.fd_cli.specs.declared.answer.Answer.TheVariants as answer
 use Rattle.fd_cli.specs.declared.refusal.Refusal.{Refusal}
 use Rattle.fd_cli.specs.declared.refusal.Refusal.TheVariants.{Judged, NoNumber, Partition}

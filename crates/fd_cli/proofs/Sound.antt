@@ -1,5 +1,5 @@
 -- What holds of every command's row.
-use Rattle.std.proofs.Common.{◌≡◌, ◌⊎◌, inl, inr, ℕ, Bool, List, [], length, Option, Some, None, refl, sym, ◌∙◌, ap, subst}
+use Rattle.std.proofs.Common.{◌≡◌, ◌⊎◌, inl, inr, ℕ, Bool, List, [], Option, Some, None, refl, sym, ◌∙◌, ap, subst}
 use Rattle.fd_bytes.specs.declared.arch.Arch.{Arch}
 use Rattle.fd_site.specs.Begun.{IsBegun}
 use Rattle.fd_site.specs.Seen.{Seen}
@@ -11,7 +11,7 @@ use Rattle.fd_cli.specs.Ending.{Ends, answer_status}
 use Rattle.fd_cli.specs.Laws.{IsSound, OnlyDoneOrFailedAdds}
 use Rattle.fd_save.specs.Saving.{clearing}
 use Rattle.fd_save.specs.declared.saved.Options.{Options}
-use Rattle.fd_cli.specs.Row.{Added, Grew, Outside, Work, nothing, only}
+use Rattle.fd_cli.specs.Row.{Added, Grew, Work, nothing, only}
 use Rattle.fd_cli.specs.Rows.{row_of}
 use Rattle.fd_cli.specs.Rows.Dump.{HasBegun, MayHaveBegun, dump_row}
 use Rattle.fd_cli.specs.Rows.Clear.{MayHaveBegunToClear, clear_row}

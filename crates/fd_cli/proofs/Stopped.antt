@@ -1,5 +1,5 @@
 -- What a machine leaves that stops in `savecore`, by its row.
-use Rattle.std.proofs.Common.{◌≡◌, inl, inr, ℕ, ◌+◌, ◌≤◌, Bool, true, false, ◌&&◌, not, IsTrue, List, [], ◌∷◌, ◌++◌, length, All, slice_range, Option, Some, None, refl, sym, ◌∙◌, ap, subst}
+use Rattle.std.proofs.Common.{◌≡◌, inl, inr, ℕ, ◌≤◌, Bool, true, false, ◌&&◌, not, IsTrue, List, [], ◌++◌, length, All, Option, Some, None, refl, sym, ◌∙◌, ap, subst}
 use Rattle.std.proofs.lemmas.List.{append-nil, drop_all, take_all}
 use Rattle.std.proofs.lemmas.List.Elements.{All-nil}
 use Rattle.fd_site.specs.Begun.{IsBegun}
@@ -16,8 +16,8 @@ use Rattle.fd_save.specs.Crash.{IsSafe, IsSavedName}
 use Rattle.fd_save.specs.Laws as save
 use Rattle.fd_save.specs.Saving.{clearing, parity_of}
 use Rattle.fd_save.specs.declared.saved.Options.{Options}
-use Rattle.fd_cli.specs.Crash.{HoldsDump, IsAsItWas, IsCutOfSavecore, LeavesSavedFiles}
-use Rattle.fd_cli.specs.Laws.{EachSavecoreIsSafe, EachSavedFileIsLeft, IsSized}
+use Rattle.fd_cli.specs.Crash.{HoldsDump, IsAsItWas}
+use Rattle.fd_cli.specs.Laws.{EachSavecoreIsSafe, EachSavedFileIsLeft}
 use Rattle.fd_cli.specs.Row.{Added}
 use Rattle.fd_cli.specs.Rows.Save.{HasBegunToSave, clearing_unless}
 
