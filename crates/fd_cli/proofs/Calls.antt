@@ -86,7 +86,9 @@ worked_on_site row old new link ports result works frame cause blamed = record {
 starves_at_once : (command : Option Command) (found : Seen) → (row_of command).Starves found nothing
 starves_at_once None found = refl
 starves_at_once (Some (command.Image arch number file)) found = refl
-starves_at_once (Some command.Judge) found = refl
+starves_at_once (Some (command.Judge force)) found = refl
+starves_at_once (Some (command.Clear force)) found = refl
+starves_at_once (Some (command.Save options keep)) found = refl
 starves_at_once (Some (command.Dump source)) found = refl
 starves_at_once (Some (command.Read name va count)) found = refl
 

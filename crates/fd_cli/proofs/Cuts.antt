@@ -4,7 +4,7 @@ use Rattle.std.specs.Bool.{OnTrue}
 use Rattle.fd_bytes.specs.Arch.{name_of, header_version_of, arch_of_header}
 use Rattle.fd_bytes.specs.declared.arch.Arch.{Arch}
 use Rattle.fd_bytes.specs.declared.arch.Arch.TheVariants.{Amd64, Arm64, Riscv}
-use Rattle.fd_site.specs.Contents.{Contents, Told, with_entries}
+use Rattle.fd_site.specs.Contents.{Contents, Told, part_of, with_entries}
 use Rattle.fd_site.specs.Cut.{EachCutOf}
 use Rattle.fd_site.specs.Seen.{Seen}
 use Rattle.fd_site.proofs.Told.{with_entries-nil}
@@ -15,7 +15,7 @@ use Rattle.fd_dump.proofs.Sizes.{minidump_pages, minidump_some}
 use Rattle.fd_dump.proofs.Headers.{header_within_fields}
 use Rattle.fd_part.specs.Partition.{is_good}
 use Rattle.fd_part.proofs.Blocks.{IsBlock-good}
-use Rattle.fd_judge.specs.Crash.{IsHeaderFor, IsRefusedOrThis}
+use Rattle.fd_judge.specs.Crash.{IsHeaderFor, IsRefusedOrThis, IsThisDump}
 use Rattle.fd_judge.proofs.Calls.{each_cut_of_call, each_cut_of_nothing, this_after_call}
 use Rattle.fd_cli.specs.Crash.{IsCutOfDump, IsFound, IsRefusedOrNamed}
 use Rattle.fd_cli.specs.Ending.{Answered, Call, Ends}
@@ -88,16 +88,20 @@ pub each_dump_is_safe : EachDumpIsSafe
 each_dump_is_safe source found new sized left = each_cut found source left.added new sized left.leaves left.told
 
 -- a whole dump is found
+pub whole_is_found : (found : Seen) (source : Source) (w : Work) (new : Option Contents) → IsSized found → (whole : IsWhole source found w)
+    → new ≡ with_entries found.told w.added.entries → (was now : Contents) → found.told ≡ Some was → new ≡ Some now
+    → IsThisDump (minidump_of whole.image) (header_of whole.image found.block) found.block (part_of now)
+whole_is_found found source w new sized whole told was now told_was told_now =
+    let image = image_of found source whole.image whole.given was told_was in
+    let header = header_for whole.image found.size found.block image.valid whole.good in
+    this_after_call found.told new was now told_was told_now (minidump_of whole.image) (header_of whole.image found.block) found.size found.block
+    (sized was told_was) whole.good whole.room header (w.added.entries, whole.dumps.is_dump, told)
+
 found_after : (found : Seen) (source : Source) (w : Work) (new : Option Contents) → IsSized found → IsWhole source found w
     → new ≡ with_entries found.told w.added.entries → IsFound found.told new source found.block
 found_after found source w new sized whole told was now told_was told_now =
     let image = image_of found source whole.image whole.given was told_was in
-    let header = header_for whole.image found.size found.block image.valid whole.good in (
-      whole.image,
-      image.names,
-      this_after_call found.told new was now told_was told_now (minidump_of whole.image) (header_of whole.image found.block) found.size found.block
-          (sized was told_was) whole.good whole.room header (w.added.entries, whole.dumps.is_dump, told),
-    )
+    (whole.image, image.names, whole_is_found found source w new sized whole told was now told_was told_now)
 
 not_74 : (status : ℕ) → status ≡ 74 → status ≡ 0 → ⊥
 not_74 status is zero = omega (arith, is, zero)
@@ -125,13 +129,13 @@ of_true false P is p = absurd (cc)
 
 -- after a whole dump, a judge over what it left answers its length
 judged_after : (found : Seen) (source : Source) (dump judge : Work) → IsSized found → IsWhole source found dump
-    → OnGood (after found dump) (Judges (after found dump)) judge
+    → OnGood (after found dump) (Judges false (after found dump)) judge
     → Told found.told (λ c. (m : MachineImage) × Names c source m × (judge.answer ≡ Dump (length (minidump_of m))))
 judged_after found source dump judge sized whole judges c told =
     let now : Contents = record c { journal = c.journal ++ dump.added.entries } in
     let told_now : with_entries found.told dump.added.entries ≡ Some now = ap (λ t. with_entries t dump.added.entries) told in
     let this = found_after found source dump (with_entries found.told dump.added.entries) sized whole refl c now told told_now in
-    let judged = of_true (is_good found.size found.block) (Judges (after found dump) judge) whole.good judges.0 in
+    let judged = of_true (is_good found.size found.block) (Judges false (after found dump) judge) whole.good judges.0 in
     (this.0, this.1, ap (λ w. w.answer) judged.2 ∙ ap verdict_answer (judged.1 now told_now ∙ this.2.verdict))
 
 pub judge_finds_dump : JudgeFindsDump

@@ -62,7 +62,7 @@ by_given : (va : ℕ) (given : Result KernelBytes OpenFault) (bytes : KernelByte
 by_given va given bytes answer is_given is = subst (λ g. IsAnswerToFile va g answer) is_given is
 
 -- over a file that is an image's minidump, `read` reads the image
-read_is_images : (law : ReadingLaw) (found : Seen) (name : List ℕ) (va count : ℕ) (c : Contents) (m : MachineImage) → found.told ≡ Some c → IsValid m
+pub read_is_images : (law : ReadingLaw) (found : Seen) (name : List ℕ) (va count : ℕ) (c : Contents) (m : MachineImage) → found.told ≡ Some c → IsValid m
     → file_of c name ≡ Some (minidump_of m) → Refines found (read_row name va count) (image_read_row m va count)
 read_is_images law found name va count c m told valid is = record {
   does = λ w does.

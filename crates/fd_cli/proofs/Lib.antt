@@ -1,4 +1,6 @@
 mod Calls
+mod Cleared
+mod Composed
 mod Cuts
 mod Dumps
 mod Good
@@ -6,4 +8,6 @@ mod Images
 mod Outcomes
 mod Reading
 mod Refused
+mod Saves
 mod Sound
+mod Stopped

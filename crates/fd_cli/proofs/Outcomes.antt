@@ -1,5 +1,5 @@
 -- What each command's work comes to: it was refused, or did what it was asked for.
-use Rattle.std.proofs.Common.{◌≡◌, ◌⊎◌, inl, inr, ℕ, ◌≤◌, true, IsTrue, length, Result, Ok, Err, sym, ◌∙◌, ap, arith}
+use Rattle.std.proofs.Common.{◌≡◌, ◌⊎◌, inl, inr, ℕ, Bool, ◌≤◌, true, IsTrue, length, Result, Ok, Err, sym, ◌∙◌, ap, arith}
 use Rattle.std.proofs.lemmas.Bool.Decides.{nat_tests}
 use Rattle.fd_site.specs.Seen.{Seen}
 use Rattle.fd_image.specs.Image.{MachineImage}
@@ -14,7 +14,7 @@ use Rattle.fd_cli.specs.Rows.Common.{OnGood, Refuses}
 use Rattle.fd_cli.specs.Rows.Dump.{ByImage, Dumps, DumpsSource, IsGiven, dump_row}
 use Rattle.fd_cli.specs.Rows.Judge.{Judges}
 use Rattle.fd_cli.specs.declared.refusal.Refusal.{Refusal}
-use Rattle.fd_cli.specs.declared.refusal.Refusal.TheVariants.{Judged, Address, NoFile, NotImage, BadImage, NoRoom, Partition, Mini, Short, BadAvail, NotCommand}
+use Rattle.fd_cli.specs.declared.refusal.Refusal.TheVariants.{Judged, Address, NoFile, NotImage, BadImage, NoRoom, Partition, Mini, Short, BadAvail, NotCommand, NoNumber}
 use Rattle.fd_cli.specs.declared.source.Source.{Source}
 use Rattle.fd_cli.proofs.Good.{either}
 
@@ -35,14 +35,15 @@ not_zero (Mini fault) zero = cc
 not_zero (Short need have) zero = cc
 not_zero (BadAvail index) zero = cc
 not_zero NotCommand zero = cc
+not_zero NoNumber zero = cc
 
 pub refused_not_zero : (refusal : Refusal) (w : Work) → Refuses refusal w → answer_status w.answer ≡ 0 → ⊥
 refused_not_zero refusal w is zero = not_zero refusal (sym (ap (λ x. answer_status x.answer) is) ∙ zero)
 
 -- a judge adds nothing
-pub judge_adds_nothing : (found : Seen) (w : Work) → OnGood found (Judges found) w → w.added ≡ nothing
-judge_adds_nothing found w does =
-    either (is_good found.size found.block) (Judges found w) _ (w.added ≡ nothing) does (λ good judges. ap (λ x. x.added) judges.2)
+pub judge_adds_nothing : (force : Bool) (found : Seen) (w : Work) → OnGood found (Judges force found) w → w.added ≡ nothing
+judge_adds_nothing force found w does =
+    either (is_good found.size found.block) (Judges force found w) _ (w.added ≡ nothing) does (λ good judges. ap (λ x. x.added) judges.2)
     (λ bad refused. refused_adds_nothing _ w refused)
 
 -- a whole dump was written, with room

@@ -1,6 +1,7 @@
 -- What holds of every command's row.
-use Rattle.std.proofs.Common.{◌≡◌, ◌⊎◌, inl, inr, ℕ, List, [], Option, Some, None, refl, ◌∙◌, ap, subst}
+use Rattle.std.proofs.Common.{◌≡◌, ◌⊎◌, inl, inr, ℕ, Bool, List, [], Option, Some, None, refl, sym, ◌∙◌, ap, subst}
 use Rattle.fd_bytes.specs.declared.arch.Arch.{Arch}
+use Rattle.fd_site.specs.Begun.{IsBegun}
 use Rattle.fd_site.specs.Seen.{Seen}
 use Rattle.fd_site.proofs.Begun.{IsBegun-whole}
 use Rattle.fd_dump.specs.Header.{header_of}
@@ -8,20 +9,27 @@ use Rattle.fd_dump.specs.Minidump.{minidump_of}
 use Rattle.fd_part.proofs.WholeDump.{IsBegunDump-whole}
 use Rattle.fd_cli.specs.Ending.{Ends, answer_status}
 use Rattle.fd_cli.specs.Laws.{IsSound, OnlyDoneOrFailedAdds}
-use Rattle.fd_cli.specs.Row.{Added, Grew, Work, nothing}
+use Rattle.fd_save.specs.Saving.{clearing}
+use Rattle.fd_save.specs.declared.saved.Options.{Options}
+use Rattle.fd_cli.specs.Row.{Added, Grew, Work, nothing, only}
 use Rattle.fd_cli.specs.Rows.{row_of}
 use Rattle.fd_cli.specs.Rows.Dump.{HasBegun, MayHaveBegun, dump_row}
+use Rattle.fd_cli.specs.Rows.Clear.{MayHaveBegunToClear, clear_row}
 use Rattle.fd_cli.specs.Rows.Image.{image_row}
+use Rattle.fd_cli.specs.Rows.Save.{MayHaveBegunToSave, save_row}
 use Rattle.fd_cli.specs.declared.command.Command.{Command}
 use Rattle.fd_cli.specs.declared.command.Command.TheVariants as command
 use Rattle.fd_cli.specs.declared.source.Source.{Source}
+use Rattle.fd_cli.proofs.Saves.{refused_or_cleared, refused_or_saved}
 use Rattle.fd_cli.proofs.Outcomes.{IsWhole, judge_adds_nothing, refused_adds_nothing, refused_or_whole}
 
 -- a command may end without a word
 pub may_be_silent : (command : Option Command) (found : Seen) → (row_of command).Says found []
 may_be_silent None found = refl
 may_be_silent (Some (command.Image arch number file)) found = refl
-may_be_silent (Some command.Judge) found = refl
+may_be_silent (Some (command.Judge force)) found = refl
+may_be_silent (Some (command.Clear force)) found = refl
+may_be_silent (Some (command.Save options keep)) found = refl
 may_be_silent (Some (command.Dump source)) found = refl
 may_be_silent (Some (command.Read name va count)) found = refl
 
@@ -48,12 +56,47 @@ image_leaves arch number file found w writes = inr (record {
   alone = writes.alone;
 })
 
+-- clearing that was done was begun
+clear_leaves : (force : Bool) (found : Seen) (w : Work) → (clear_row force).Does found w → MayHaveBegunToClear force found w.added
+clear_leaves force found w does = elim (refused_or_cleared force found w does) [
+  | inl refused ↦ inl (refused_adds_nothing refused.0 w refused.1)
+  | inr cleared ↦ inr (record {
+    good = cleared.0;
+    header = cleared.1.header;
+    at = cleared.1.at;
+    sector = cleared.1.sector;
+    finds = cleared.1.finds;
+    begun = subst (λ (x : Work). IsBegun (clearing found.size found.block cleared.1.sector) x.added.entries) (sym cleared.1.is)
+        (IsBegun-whole (clearing found.size found.block cleared.1.sector));
+    alone = subst (λ (x : Work). x.added ≡ only x.added.entries) (sym cleared.1.is) refl;
+  })
+]
+
+-- a dump that was saved was begun to save
+save_leaves : (options : Options) (keep : Bool) (found : Seen) (w : Work) → (save_row options keep).Does found w
+    → MayHaveBegunToSave options keep found w.added
+save_leaves options keep found w does = elim (refused_or_saved options keep found w does) [
+  | inl refused ↦ inl (refused_adds_nothing refused.0 w refused.1)
+  | inr saved ↦ inr (record {
+    good = saved.0;
+    saved = saved.1.saved;
+    body = saved.1.body;
+    to_save = saved.1.to_save;
+    planned = w.added.entries;
+    is_planned = saved.1.entries;
+    begun = IsBegun-whole w.added.entries;
+    alone = saved.1.alone;
+  })
+]
+
 -- each row is sound
 pub sound : (command : Option Command) → IsSound (row_of command)
 sound None = record { whole = λ found w does. ap (λ x. x.added) does; starved = λ found added is. is; silent = λ found. refl }
 sound (Some (command.Image arch number file)) =
     record { whole = image_leaves arch number file; starved = λ found added is. inl is; silent = λ found. refl }
-sound (Some command.Judge) = record { whole = judge_adds_nothing; starved = λ found added is. is; silent = λ found. refl }
+sound (Some (command.Clear force)) = record { whole = clear_leaves force; starved = λ found added is. inl is; silent = λ found. refl }
+sound (Some (command.Save options keep)) = record { whole = save_leaves options keep; starved = λ found added is. inl is; silent = λ found. refl }
+sound (Some (command.Judge force)) = record { whole = judge_adds_nothing force; starved = λ found added is. is; silent = λ found. refl }
 sound (Some (command.Dump source)) = record { whole = dump_leaves source; starved = λ found added is. inl is; silent = λ found. refl }
 sound (Some (command.Read name va count)) =
     record { whole = λ found w does. ap (λ x. x.added) does.1; starved = λ found added is. is; silent = λ found. refl }
@@ -62,7 +105,15 @@ sound (Some (command.Read name va count)) =
 adds_with_zero : (command : Option Command) (found : Seen) (w : Work) → (row_of command).Does found w → (answer_status w.answer ≡ 0) ⊎ (w.added ≡ nothing)
 adds_with_zero None found w does = inr (ap (λ x. x.added) does)
 adds_with_zero (Some (command.Image arch number file)) found w does = inl (ap answer_status does.answer)
-adds_with_zero (Some command.Judge) found w does = inr (judge_adds_nothing found w does)
+adds_with_zero (Some (command.Judge force)) found w does = inr (judge_adds_nothing force found w does)
+adds_with_zero (Some (command.Clear force)) found w does = elim (refused_or_cleared force found w does) [
+  | inl refused ↦ inr (refused_adds_nothing refused.0 w refused.1)
+  | inr cleared ↦ inl (ap (λ x. answer_status x.answer) cleared.1.is)
+]
+adds_with_zero (Some (command.Save options keep)) found w does = elim (refused_or_saved options keep found w does) [
+  | inl refused ↦ inr (refused_adds_nothing refused.0 w refused.1)
+  | inr saved ↦ inl (ap answer_status saved.1.answer)
+]
 adds_with_zero (Some (command.Dump source)) found w does = elim (refused_or_whole source found w does) [
   | inl refused ↦ inr (refused_adds_nothing refused.0 w refused.1)
   | inr whole ↦ inl (ap answer_status whole.dumps.answer)
@@ -72,7 +123,9 @@ adds_with_zero (Some (command.Read name va count)) found w does = inr (ap (λ x.
 starves_with_nothing : (command : Option Command) (found : Seen) (added : Added) → (row_of command).Starves found added → added ≡ nothing
 starves_with_nothing None found added is = is
 starves_with_nothing (Some (command.Image arch number file)) found added is = is
-starves_with_nothing (Some command.Judge) found added is = is
+starves_with_nothing (Some (command.Judge force)) found added is = is
+starves_with_nothing (Some (command.Clear force)) found added is = is
+starves_with_nothing (Some (command.Save options keep)) found added is = is
 starves_with_nothing (Some (command.Dump source)) found added is = is
 starves_with_nothing (Some (command.Read name va count)) found added is = is
 

@@ -3,11 +3,12 @@ use Rattle.std.specs.Prelude.{◌≡◌, ◌⊎◌, ℕ, ◌+◌, ◌^◌, ◌�
 use Rattle.std.specs.Fmt.{decimal}
 use Rattle.fd_site.specs.Fault.{Rose}
 use Rattle.fd_site.specs.Trace.{grown}
+use Rattle.fd_info.specs.Name.{vmcore_name}
 use Rattle.fd_way.specs.ReadText.{read_text}
 use Rattle.fd_cli.specs.Refusal.{line_of, status_of}
 use Rattle.fd_cli.specs.Row.{Added, FaultRose, Grew, Kept, Outside, Row, Work}
 use Rattle.fd_cli.specs.declared.answer.Answer.{Answer}
-use Rattle.fd_cli.specs.declared.answer.Answer.TheVariants.{Made, Dump, Dumped, Read, Refused}
+use Rattle.fd_cli.specs.declared.answer.Answer.TheVariants.{Made, Dump, Dumped, Cleared, Saved, Read, Refused}
 
 -- a line, with its newline
 abbrev pub line : List ℕ → List ℕ
@@ -18,6 +19,8 @@ abbrev pub answer_text : Answer → List ℕ
 answer_text (Made file len) = line (codes "image " ++ (file ++ (codes " " ++ decimal len)))
 answer_text (Dump len) = line (codes "dump " ++ decimal len)
 answer_text (Dumped len) = line (codes "dumped " ++ decimal len)
+answer_text Cleared = line (codes "cleared")
+answer_text (Saved number len) = line (codes "saved " ++ (vmcore_name number ++ (codes " " ++ decimal len)))
 answer_text (Read address bytes) = read_text address bytes
 answer_text (Refused refusal) = line (line_of refusal)
 
@@ -25,6 +28,8 @@ abbrev pub answer_status : Answer → ℕ
 answer_status (Made file len) = 0
 answer_status (Dump len) = 0
 answer_status (Dumped len) = 0
+answer_status Cleared = 0
+answer_status (Saved number len) = 0
 answer_status (Read address bytes) = 0
 answer_status (Refused refusal) = status_of refusal
 
@@ -83,5 +88,7 @@ abbrev pub IsPrintable : Answer → Type 0
 IsPrintable (Made file len) = length file ≤ 64
 IsPrintable (Dump len) = Unit {0}
 IsPrintable (Dumped len) = Unit {0}
+IsPrintable Cleared = Unit {0}
+IsPrintable (Saved number len) = Unit {0}
 IsPrintable (Read address bytes) = address + length bytes ≤ 2 ^ 64
 IsPrintable (Refused refusal) = Unit {0}

@@ -1,18 +1,32 @@
 -- Laws over rows: what holds of every row, and what follows where calls come one after another.
-use Rattle.std.specs.Prelude.{◌≡◌, ◌⊎◌, ℕ, List, [], length, Option}
+use Rattle.std.specs.Prelude.{◌≡◌, ◌⊎◌, ℕ, ◌≤◌, Bool, false, List, [], length, Option, Some, None}
 use Rattle.fd_site.specs.Contents.{Contents, Told, part_of, with_entries}
-use Rattle.fd_site.specs.Cut.{EachCutOf}
+use Rattle.fd_site.specs.Cut.{Disk, EachCutOf, IsCut}
 use Rattle.fd_site.specs.Seen.{Seen}
 use Rattle.fd_image.specs.Image.{MachineImage}
+use Rattle.fd_kdh.specs.Header.{dump_header}
+use Rattle.fd_dump.specs.Header.{header_of}
+use Rattle.fd_dump.specs.KernelRead.{kernel_read}
 use Rattle.fd_dump.specs.Minidump.{minidump_of}
-use Rattle.fd_cli.specs.Crash.{IsCutOfDump}
+use Rattle.fd_part.specs.Partition.{IsClear}
+use Rattle.fd_info.specs.Name.{vmcore_name}
+use Rattle.fd_info.specs.Saved.{IsSaved}
+use Rattle.fd_save.specs.Saving.{device_name, parity_of}
+use Rattle.fd_save.specs.declared.saved.Options.{Options}
+use Rattle.fd_judge.specs.declared.why.Why.TheVariants.{Cleared}
+use Rattle.fd_cli.specs.Crash.{IsCutOfDump, IsCutOfSavecore, LeavesSavedFiles}
 use Rattle.fd_cli.specs.Ending.{Call, answer_status}
 use Rattle.fd_cli.specs.Row.{Added, Grew, Outside, Row, Work, nothing}
 use Rattle.fd_cli.specs.Rows.{row_of}
 use Rattle.fd_cli.specs.Rows.Dump.{Names, dump_row}
+use Rattle.fd_cli.specs.Rows.Common.{Refuses}
 use Rattle.fd_cli.specs.Rows.Judge.{judge_row}
-use Rattle.fd_cli.specs.declared.answer.Answer.TheVariants.{Dump}
+use Rattle.fd_cli.specs.Rows.Read.{bytes_answer, read_row}
+use Rattle.fd_cli.specs.Rows.Save.{save_row}
+use Rattle.fd_cli.specs.declared.answer.Answer.TheVariants.{Dump, Saved}
 use Rattle.fd_cli.specs.declared.command.Command.{Command}
+use Rattle.fd_cli.specs.declared.refusal.Refusal.{Refusal}
+use Rattle.fd_cli.specs.declared.refusal.Refusal.TheVariants.{Judged}
 use Rattle.fd_cli.specs.declared.source.Source.{Source}
 
 -- whatever a row's work was, it left what the row may leave; and it may end without a word
@@ -53,7 +67,7 @@ IsSized found = Told found.told (λ c. length (part_of c) ≡ found.size)
 abbrev pub JudgeFindsDump : Type 0
 JudgeFindsDump =
     (source : Source) (found : Seen) (dump judge : Work) → IsSized found → (dump_row source).Does found dump → answer_status dump.answer ≡ 0
-    → judge_row.Does (after found dump) judge
+    → (judge_row false).Does (after found dump) judge
     → Told found.told (λ c. (m : MachineImage) × Names c source m × (judge.answer ≡ Dump (length (minidump_of m))))
 
 -- wherever a machine stops in what `dump` left, over a partition that was clear: judging refuses it, or finds the image's dump
@@ -61,3 +75,62 @@ abbrev pub EachDumpIsSafe : Type 0
 EachDumpIsSafe =
     (source : Source) (found : Seen) (new : Option Contents) → IsSized found → Left (dump_row source) found new
     → EachCutOf found.told new (IsCutOfDump source found.block)
+
+-- `dump`, then a `savecore` that saves, then `read` of the saved file: the image's bytes, or its refusal
+abbrev pub ReadsWhatWasDumped : Type 0
+ReadsWhatWasDumped =
+    (source : Source) (options : Options) (keep : Bool) (found : Seen) (dump save read : Work) (number len va count : ℕ)
+    → options.force ≡ false → IsSized found → (dump_row source).Does found dump → answer_status dump.answer ≡ 0
+    → (save_row options keep).Does (after found dump) save → save.answer ≡ Saved number len
+    → (read_row (vmcore_name number) va count).Does (after (after found dump) save) read
+    → Told found.told (λ c. (m : MachineImage) × Names c source m × (read.answer ≡ bytes_answer va (kernel_read m va count)))
+
+-- a site that is found as a machine left it that stopped: its partition has these bytes and sizes, its directory any files
+pub record IsFoundAs (disk : Disk) (size block : ℕ) (found : Seen) : Type 0 where
+  pub contents : Contents
+  pub told : found.told ≡ Some contents
+  pub part : part_of contents ≡ disk.part
+  pub size_is : found.size ≡ size
+  pub block_is : found.block ≡ block
+
+-- `savecore` was refused, or it saved exactly the minidump of the image that the source named, and its info
+pub record IsWhollySaved (c : Contents) (source : Source) (found : Seen) (w : Work) : Type 0 where
+  pub image : MachineImage
+  pub names : Names c source image
+  pub number : ℕ
+  pub answer : w.answer ≡ Saved number (length (minidump_of image))
+  pub files : Told (with_entries found.told w.added.entries)
+      (λ now. IsSaved now number (minidump_of image) (header_of image found.block) device_name (parity_of (dump_header (header_of image found.block))))
+
+abbrev pub IsRefusedOrWhollySaved : Contents → Source → Seen → Work → Type 0
+IsRefusedOrWhollySaved c source found w = ((refusal : Refusal) × Refuses refusal w) ⊎ IsWhollySaved c source found w
+
+-- Wherever a machine stops in a `dump` over a clear partition, and whatever the call would have answered: a later `savecore`
+-- without force that meets no fault is refused, or saves exactly the minidump of the image.
+abbrev pub EachCutDumpIsSavedWhole : Type 0
+EachCutDumpIsSavedWhole =
+    (source : Source) (options : Options) (keep : Bool) (found later : Seen) (new : Option Contents) (was now : Contents) (save : Work)
+    → options.force ≡ false → IsSized found → Left (dump_row source) found new → found.told ≡ Some was → new ≡ Some now
+    → IsClear (part_of was) found.block
+    → (k : ℕ) (these : List Bool) (disk : Disk) → length was.journal ≤ k → IsCut now k these disk → IsFoundAs disk found.size found.block later
+    → (save_row options keep).Does later save → IsRefusedOrWhollySaved was source later save
+
+-- wherever a machine stops in what `savecore` left, the dump that judging found stands
+abbrev pub EachSavecoreIsSafe : Type 0
+EachSavecoreIsSafe =
+    (options : Options) (keep : Bool) (found : Seen) (new : Option Contents) → IsSized found → Left (save_row options keep) found new
+    → EachCutOf found.told new (IsCutOfSavecore options found.block)
+
+-- without a maximum, what `savecore` left has no entry on a file of another saved dump
+abbrev pub EachSavedFileIsLeft : Type 0
+EachSavedFileIsLeft =
+    (options : Options) (keep : Bool) (found : Seen) (new : Option Contents) → options.max ≡ None → IsSized found
+    → Left (save_row options keep) found new → LeavesSavedFiles found.told new
+
+-- after a `savecore` that saved a dump and didn't keep it, one without force is refused: the dump is cleared
+abbrev pub ClearedIsRefused : Type 0
+ClearedIsRefused =
+    (options again : Options) (keep : Bool) (found : Seen) (save next : Work)
+    → IsSized found → (save_row options false).Does found save → answer_status save.answer ≡ 0
+    → again.force ≡ false → (save_row again keep).Does (after found save) next
+    → Told found.told (λ c. Refuses (Judged Cleared) next)

@@ -7,4 +7,5 @@ pub mod Refusal
 pub mod Reply
 pub mod Row
 pub mod Rows
+pub mod Savecore
 pub mod Source

@@ -10,7 +10,7 @@ use Rattle.fd_part.specs.Printed.{bad_partition_number, bad_partition_text, no_r
 use Rattle.fd_judge.specs.Printed.{why_number, why_text}
 use Rattle.fd_cli.specs.declared.refusal.Refusal.{Refusal}
 use Rattle.fd_cli.specs.declared.refusal.Refusal.TheVariants.{Judged, Address, NoFile, NotImage, BadImage, NoRoom, Partition}
-use Rattle.fd_cli.specs.declared.refusal.Refusal.TheVariants.{Mini, Short, BadAvail, NotCommand}
+use Rattle.fd_cli.specs.declared.refusal.Refusal.TheVariants.{Mini, Short, BadAvail, NotCommand, NoNumber}
 
 abbrev pub number_of : Refusal → ℕ
 number_of (Judged why) = why_number why
@@ -24,6 +24,7 @@ number_of (Mini fault) = mini_number fault
 number_of (Short need have) = 50
 number_of (BadAvail index) = 51
 number_of NotCommand = 60
+number_of NoNumber = 62
 
 abbrev pub text_of : Refusal → List ℕ
 text_of (Judged why) = why_text why
@@ -37,6 +38,7 @@ text_of (Mini fault) = mini_text fault
 text_of (Short need have) = codes "short, needs " ++ (decimal need ++ (codes " of " ++ decimal have))
 text_of (BadAvail index) = codes "range " ++ decimal index
 text_of NotCommand = codes "not a command"
+text_of NoNumber = codes "no number"
 
 -- the refusal's line, without its newline
 abbrev pub line_of : Refusal → List ℕ
@@ -55,3 +57,4 @@ status_of (Mini fault) = 65
 status_of (Short need have) = 65
 status_of (BadAvail index) = 65
 status_of NotCommand = 64
+status_of NoNumber = 69

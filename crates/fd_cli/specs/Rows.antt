@@ -1,20 +1,24 @@
 -- The row of each command.
 use Rattle.std.specs.Prelude.{Option, Some, None}
 use Rattle.fd_cli.specs.Row.{Row}
+use Rattle.fd_cli.specs.Rows.Clear.{clear_row}
 use Rattle.fd_cli.specs.Rows.Common.{AddsNothing, Refuses, SaysNothing, no_fault}
 use Rattle.fd_cli.specs.Rows.Dump.{dump_row}
 use Rattle.fd_cli.specs.Rows.Image.{image_row}
 use Rattle.fd_cli.specs.Rows.Judge.{judge_row}
 use Rattle.fd_cli.specs.Rows.Read.{read_row}
+use Rattle.fd_cli.specs.Rows.Save.{save_row}
 use Rattle.fd_cli.specs.declared.command.Command.{Command}
 use Rattle.fd_cli.specs.declared.command.Command.TheVariants as command
 use Rattle.fd_cli.specs.declared.refusal.Refusal.TheVariants.{NotCommand}
+pub mod Clear
 pub mod Common
 pub mod Dump
 pub mod Image
 pub mod ImageRead
 pub mod Judge
 pub mod Read
+pub mod Save
 
 -- words that are no command
 abbrev pub no_command_row : Row
@@ -29,6 +33,8 @@ no_command_row = record {
 abbrev pub row_of : Option Command → Row
 row_of None = no_command_row
 row_of (Some (command.Image arch number file)) = image_row arch number file
-row_of (Some command.Judge) = judge_row
+row_of (Some (command.Judge force)) = judge_row force
+row_of (Some (command.Clear force)) = clear_row force
+row_of (Some (command.Save options keep)) = save_row options keep
 row_of (Some (command.Dump source)) = dump_row source
 row_of (Some (command.Read name va count)) = read_row name va count

@@ -1,4 +1,4 @@
-//! `savecore -C`.
+//! `savecore -C [-f]`.
 
 ghost use Rattle.std.specs.Prelude.{◌≡◌, ◌≤◌, IfOk, OnErr};
 ghost use Rattle.fd_site.specs.Fault.{Rose};
@@ -13,9 +13,9 @@ use fd_judge::{Verdict, judge};
 use fd_part::{BadPartition, good_partition};
 use fd_site::{Site, SiteFault};
 
-/// `savecore -C`: is there a dump on the partition?
-pub(crate) fn judge_partition<S: Site>(site: &mut S) -> Result<Answer, SiteFault>
-    ensures answer { IfOk result (DoesOnly judge_row (S.seen site.old)) }
+/// `savecore -C`: is there a dump on the partition? By force a cleared one counts too.
+pub(crate) fn judge_partition<S: Site>(site: &mut S, force: bool) -> Result<Answer, SiteFault>
+    ensures answer { IfOk result (DoesOnly (judge_row force) (S.seen site.old)) }
     ensures printable { IfOk result IsPrintable }
     ensures untouched { Untouched (S.seen site.old) (S.seen site.new) }
     ensures cause { OnErr result (Rose (S.seen site.old).faults (S.seen site.new).faults) }
@@ -25,7 +25,7 @@ pub(crate) fn judge_partition<S: Site>(site: &mut S) -> Result<Answer, SiteFault
     if !good_partition(size, block) {
         return Ok(Answer::Refused(Refusal::Partition(BadPartition { size, block })));
     }
-    match judge(site, false)? {
+    match judge(site, force)? {
         Verdict::Dump { header, .. } => Ok(Answer::Dump {
             length: header.dumplength,
         }),

@@ -1,9 +1,12 @@
 //! What follows from the rows of the commands alone.
 
 ghost use Rattle.std.specs.Prelude.{Option};
-ghost use Rattle.fd_cli.specs.Laws.{EachDumpIsSafe, IsSound, JudgeFindsDump, OnlyDoneOrFailedAdds};
+ghost use Rattle.fd_cli.specs.Laws.{ClearedIsRefused, EachCutDumpIsSavedWhole, EachDumpIsSafe, EachSavecoreIsSafe, EachSavedFileIsLeft, IsSound, JudgeFindsDump, OnlyDoneOrFailedAdds, ReadsWhatWasDumped};
 ghost use Rattle.fd_cli.specs.Rows.{row_of};
 ghost use Rattle.fd_cli.specs.declared.command.Command.{Command};
+
+use fd_save::laws::{each_cut_of_a_save_is_safe, each_save_is_saved, no_saved_file_is_touched};
+use fd_way::laws::each_read_of_a_minidump_is_the_images;
 
 /// However a command ends, what it added is what its row leaves.
 pub fn each_row_is_sound()
@@ -23,4 +26,40 @@ pub fn each_dump_is_found()
 /// Whatever `dump` left: each cut of it over a clear partition is refused, or is the image's dump.
 pub fn each_dump_is_safe()
     ensures { EachDumpIsSafe }
+{}
+
+/// The headline's first sentence: wherever a machine stops in a `dump` over a clear partition, a `savecore` that meets no
+/// fault refuses it, or saves exactly the image's minidump.
+pub fn each_cut_dump_is_saved_whole()
+    ensures { EachCutDumpIsSavedWhole }
+{
+    each_save_is_saved();
+}
+
+/// A `read` of what `dump` wrote and `savecore` saved gives what the image gives.
+pub fn each_saved_dump_reads_as_its_image()
+    ensures { ReadsWhatWasDumped }
+{
+    each_save_is_saved();
+    each_read_of_a_minidump_is_the_images();
+}
+
+/// Wherever a machine stops in a `savecore`, the dump that judging found stands: on the partition as it was, or in its
+/// files, and then the partition differs in the cleared magic alone.
+pub fn each_savecore_is_safe()
+    ensures { EachSavecoreIsSafe }
+{
+    each_cut_of_a_save_is_safe();
+}
+
+/// Without `-m`, a `savecore` touches no file of another saved dump, however it ends.
+pub fn each_saved_file_is_left()
+    ensures { EachSavedFileIsLeft }
+{
+    no_saved_file_is_touched();
+}
+
+/// A dump that was saved and not kept is refused by a `savecore` without `-f`: it is cleared.
+pub fn each_cleared_dump_is_refused()
+    ensures { ClearedIsRefused }
 {}

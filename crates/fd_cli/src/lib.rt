@@ -14,6 +14,8 @@ mod read_memory;
 mod refusal;
 mod reply;
 mod run;
+mod save_dump;
+mod savecore;
 mod source;
 pub mod status;
 mod text;
@@ -28,6 +30,8 @@ pub use source::Source;
 pub use word::Word;
 
 #[cfg(test)]
+mod crowded_tests;
+#[cfg(test)]
 mod dump_tests;
 #[cfg(test)]
 mod image_files;
@@ -35,6 +39,8 @@ mod image_files;
 mod image_tests;
 #[cfg(test)]
 mod read_tests;
+#[cfg(test)]
+mod save_tests;
 #[cfg(test)]
 mod table_tests;
 #[cfg(test)]

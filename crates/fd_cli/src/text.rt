@@ -3,10 +3,11 @@
 ghost use Rattle.std.specs.Prelude.{◌≡◌, ◌≤◌, length};
 ghost use Rattle.fd_cli.specs.Ending.{answer_text};
 ghost use Rattle.fd_cli.specs.Reply.{text_bytes};
-ghost use Rattle.fd_cli.specs.declared.answer.Answer.TheVariants.{Made};
+ghost use Rattle.fd_cli.specs.declared.answer.Answer.TheVariants.{Made, Saved};
 
 use crate::word::Word;
 use arrayvec::ArrayString;
+use fd_info::vmcore_name;
 use itoa::Buffer;
 
 /// A line that is made without memory, so behind a write too.
@@ -43,6 +44,19 @@ pub(crate) fn image_line(file: &Word, size: u64) -> Line
     line.push_str(file.as_str());
     line.push_str(" ");
     line.push_str(Buffer::new().format(size));
+    line.push('\n');
+    line
+}
+
+/// The line of a dump that was saved under a number.
+pub(crate) fn saved_line(number: u32, length: u64) -> Line
+    ensures { result.bytes ≡ answer_text (Saved number length) }
+{
+    let mut line = Line::new();
+    line.push_str("saved ");
+    line.push_str(vmcore_name(number).as_str());
+    line.push_str(" ");
+    line.push_str(Buffer::new().format(length));
     line.push('\n');
     line
 }

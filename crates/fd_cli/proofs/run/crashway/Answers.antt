@@ -18,3 +18,13 @@ returns-clause-found g c source is zero =
 pub returns-clause-reads : goal.returns-clause-reads
 returns-clause-reads g c name va count is =
     reads_of_call c.each_read_of_a_minidump_is_the_images.ensures _ _ name va count _ (call_by _ _ _ _ _ is c.carry_out.ensures).ends
+
+pub returns-clause-stopped : goal.returns-clause-stopped
+returns-clause-stopped g c options keep is =
+    c.each_savecore_is_safe.ensures options keep _ _ (λ d told. g.met.S.Site.told_size _ d told)
+    (left_of _ _ _ _ (sound (Some (command.Save options keep))) (call_by _ _ _ _ _ is c.carry_out.ensures))
+
+pub returns-clause-others : goal.returns-clause-others
+returns-clause-others g c options keep is none =
+    c.each_saved_file_is_left.ensures options keep _ _ none (λ d told. g.met.S.Site.told_size _ d told)
+    (left_of _ _ _ _ (sound (Some (command.Save options keep))) (call_by _ _ _ _ _ is c.carry_out.ensures))

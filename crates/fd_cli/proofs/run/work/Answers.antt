@@ -1,9 +1,11 @@
 use Rattle.std.proofs.Common.{Some, refl, sym, ◌∙◌, ap}
 use Rattle.fd_cli.specs.Command.{command_of}
+use Rattle.fd_cli.specs.Rows.Clear.{clear_row}
 use Rattle.fd_cli.specs.Rows.Dump.{dump_row}
 use Rattle.fd_cli.specs.Rows.Image.{image_row}
 use Rattle.fd_cli.specs.Rows.Judge.{judge_row}
 use Rattle.fd_cli.specs.Rows.Read.{read_row}
+use Rattle.fd_cli.specs.Rows.Save.{save_row}
 use Rattle.fd_cli.specs.declared.command.Command.{Command}
 use Rattle.fd_cli.proofs.Calls.{not_a_command, starved_at_once, worked_by, worked_on_site}
 use Rattle.fd_cli.proofs.run.work.Goals as goal
@@ -28,9 +30,24 @@ returns-in-Some-Image g c =
 
 pub returns-in-Some-Judge : goal.returns-in-Some-Judge
 returns-in-Some-Judge g c =
+    let j = c.in-Some-Judge in
     let done = c.judge_reply.ensures in
-    worked_by _ _ _ _ _ (sym c.in_ok-read_command.ensures.value ∙ c.in-Some-Judge.is ∙ ap (λ (x : Command). Some x) c.in-Some-Judge.field-0-is)
-    (worked_on_site judge_row _ _ _ _ _ done.works done.frame done.cause refl)
+    worked_by _ _ _ _ _ (sym c.in_ok-read_command.ensures.value ∙ j.is ∙ ap (λ (x : Command). Some x) j.field-0-is)
+    (worked_on_site (judge_row j.force) _ _ _ _ _ done.works done.frame done.cause refl)
+
+pub returns-in-Some-Clear : goal.returns-in-Some-Clear
+returns-in-Some-Clear g c =
+    let k = c.in-Some-Clear in
+    let done = c.clear_dump.ensures in
+    worked_by _ _ _ _ _ (sym c.in_ok-read_command.ensures.value ∙ k.is ∙ ap (λ (x : Command). Some x) k.field-0-is)
+    (worked_on_site (clear_row k.force) _ _ _ _ _ done.works done.frame done.cause refl)
+
+pub returns-in-Some-Save : goal.returns-in-Some-Save
+returns-in-Some-Save g c =
+    let s = c.in-Some-Save in
+    let done = c.save_dump.ensures in
+    worked_by _ _ _ _ _ (sym c.in_ok-read_command.ensures.value ∙ s.is ∙ ap (λ (x : Command). Some x) s.field-0-is)
+    (worked_on_site (save_row s.options s.keep) _ _ _ _ _ done.works done.frame done.cause refl)
 
 pub returns-in-Some-Dump : goal.returns-in-Some-Dump
 returns-in-Some-Dump g c =
