@@ -4,7 +4,7 @@ ghost use Rattle.std.specs.Prelude.{◌≡◌, [], IfOk};
 
 use crate::dump_tests::with_image;
 use crate::image_files::riscv_image;
-use crate::tests::{check, failing_partition, header, partition, preset_headers};
+use crate::tests::{check, failing_partition, header, not_a_command, partition, preset_headers};
 use fd_fake::MemSite;
 use fd_kdh::encode;
 use fd_site::{Site, good_name};
@@ -294,28 +294,15 @@ fn a_lost_number_is_not_written_over(rt: HostRuntime) -> Result<(), Fail> {
     saves_behind_what_was_begun(&rt, alloc, &mut site)
 }
 
-// Words that are no command.
-fn is_no_command(rt: &impl Abort, alloc: Global, words: &[&str]) -> Result<(), Fail> {
-    let mut site = partition(alloc, 131072, 512)?;
-    check(
-        rt,
-        alloc,
-        &mut site,
-        words,
-        64,
-        "refused 60: not a command\n",
-    )
-}
-
 #[test]
 fn options_that_exclude_each_other_are_no_command(rt: HostRuntime) -> Result<(), Fail> {
     let alloc = rt.alloc();
-    is_no_command(&rt, alloc, &["savecore", "-C", "-k"])?;
-    is_no_command(&rt, alloc, &["savecore", "-C", "-c"])?;
-    is_no_command(&rt, alloc, &["savecore", "-m", "0"])?;
-    is_no_command(&rt, alloc, &["savecore", "-m", "65537"])?;
-    is_no_command(&rt, alloc, &["savecore", "-m"])?;
-    is_no_command(&rt, alloc, &["savecore", "vmcore.0"])
+    not_a_command(&rt, alloc, &["savecore", "-C", "-k"])?;
+    not_a_command(&rt, alloc, &["savecore", "-C", "-c"])?;
+    not_a_command(&rt, alloc, &["savecore", "-m", "0"])?;
+    not_a_command(&rt, alloc, &["savecore", "-m", "65537"])?;
+    not_a_command(&rt, alloc, &["savecore", "-m"])?;
+    not_a_command(&rt, alloc, &["savecore", "vmcore.0"])
 }
 
 #[test]
