@@ -1,6 +1,6 @@
 #!/usr/bin/env bash
-# The time of one walk of a range's leaves, by the gigabytes of the range and by the pages that are mapped in it, beside
-# two plain C programs over the same tables:
+# The time of one walk of a range's leaves, by the gigabytes of the range and by the pages of the generated AMD64 image
+# whose tables are walked, beside two plain C programs over the same tables:
 #   nested  goes through the entries of each table that it comes to, by one call a table
 #   lookup  looks each page of the range up from the topmost table; ranges of up to 16 GiB alone
 # All three print what they met, and that has to be the same.
@@ -8,15 +8,14 @@
 # Microseconds of the processor for one walk: the least of several runs with many walks, less the least of as many runs
 # without any, by the number of walks. So neither the start of a program nor the building of its tables is in a figure.
 #
-# `apart` 1: the pages stand side by side. `apart` 512: each is in a last-level table of its own, whose 511 other
-# entries are looked at too. The first argument is how many runs are timed (7 if it is left out). It needs gcc and python3.
+# The first argument is how many runs are timed (7 if it is left out). It needs cc and python3.
 set -eu
 top=$(cd "$(dirname "$0")/.." && pwd)
 runs=${1:-7}
 folder=$(mktemp -d)
 trap 'rm -rf "$folder"' EXIT
 
-(cd "$top/crates/fd_walkbench" && rt run -- 1 1 1 1) >"$folder/build.log" 2>&1 || {
+(cd "$top/crates/fd_bench" && rt run -- leaves 0 1 1) >"$folder/build.log" 2>&1 || {
     cat "$folder/build.log"
     exit 1
 }
@@ -75,46 +74,52 @@ static void nested(uint64_t table, int height, uint64_t va, uint64_t last) {
     }
 }
 
-static void lookup(uint64_t va) {
+/* the bytes from here on that the look-up tells of */
+static uint64_t lookup(uint64_t va) {
     uint64_t table = 0;
     for (int height = 3;; height--) {
         uint64_t bits = words[place(table, va, height)];
-        if (!(bits & present)) return;
+        if (!(bits & present)) return 4096;
         if (height == 0 || bits & large) {
             meet(bits);
-            return;
+            return (uint64_t)4096 << 9 * height;
         }
         table = bits & address;
     }
 }
 
+/* The tables of a generated image: two of three pages of its data are mapped, and 2 MiB behind all of them. */
+static void map_data(uint64_t pages) {
+    for (uint64_t page = 0; page < pages; page++) {
+        uint64_t second = page >= pages / 2, start = second ? 0xa0000000 : 0x90000000;
+        if (page % 3 != 2) map(window + 4096 * page, start + 4096 * (second ? page - pages / 2 : page));
+    }
+    uint64_t table = 0, last = window + ((pages + 511) / 512 << 21);
+    for (int height = 3; height > 1; height--) table = words[place(table, last, height)] & address;
+    words[place(table, last, 1)] = 0x90000000 | large | present;
+}
+
 int main(int count, char **args) {
-    if (count != 6) return 64;
-    uint64_t bytes = strtoull(args[2], 0, 10) << 30, pages = strtoull(args[3], 0, 10);
-    uint64_t apart = strtoull(args[4], 0, 10), rounds = strtoull(args[5], 0, 10);
+    if (count != 5) return 64;
+    uint64_t number = strtoull(args[2], 0, 10), bytes = strtoull(args[3], 0, 10) << 30, rounds = strtoull(args[4], 0, 10);
     add_table();
-    for (uint64_t page = 0; page < pages; page++) map(window + 4096 * apart * page, 4096 * (page + 1));
+    map_data(8 + number % 16384);
     for (; rounds; rounds--) {
         if (!strcmp(args[1], "nested")) nested(0, 3, window, window + (bytes - 1));
         else
-            for (uint64_t at = 0; at < bytes; at += 4096) lookup(window + at);
+            for (uint64_t at = 0, met = 0; at < bytes; at += met) met = lookup(window + at);
     }
     printf("%" PRIu64 " leaves, their addresses add up to %" PRIu64 "\n", leaves, sum);
 }
 C
-gcc -O2 -o "$folder/plain" "$folder/plain.c"
+cc -O2 -o "$folder/plain" "$folder/plain.c"
 
-python3 - "$runs" "$top/crates/fd_walkbench/out/fd_walkbench" "$folder/plain" <<'PY'
+python3 - "$runs" "$top/crates/fd_bench/out/fd_bench" "$folder/plain" <<'PY'
 import math, os, subprocess, sys
 
 runs, ours, plain = int(sys.argv[1]), sys.argv[2], sys.argv[3]
-# Gigabytes, pages, and how many pages apart these begin.
-SIZES = [
-    (gigabytes, pages, apart)
-    for pages, apart in ((0, 1), (1000, 1), (10_000, 1), (100_000, 1), (1000, 512))
-    for gigabytes in (1, 16, 256, 1024)
-    if pages * apart <= gigabytes << 18
-]
+# Gigabytes of the range, and pages of data of the image.
+SIZES = [(gigabytes, pages) for pages in (8, 1000, 10_000, 16_384) for gigabytes in (1, 16, 256, 1024)]
 WALKS = [
     (walker, size)
     for size in SIZES
@@ -124,8 +129,9 @@ WALKS = [
 
 
 def words(walker, size, rounds):
-    command = [ours] if walker == "fd_walk" else [plain, walker]
-    return command + [str(number) for number in (*size, rounds)]
+    command = [ours, "leaves"] if walker == "fd_walk" else [plain, walker]
+    gigabytes, pages = size
+    return command + [str(number) for number in (pages - 8, gigabytes, rounds)]
 
 
 def text(walker, size):
@@ -142,10 +148,10 @@ def seconds(command):
 
 # So many walks that they take some hundredths of a second or more, by the entries that a walk looks at.
 def many(walker, size):
-    gigabytes, pages, apart = size
+    gigabytes, pages = size
     if walker == "lookup":
         return 64 // gigabytes
-    entries = pages * min(apart, 512) + 1500 if pages else 4
+    entries = pages + 1500
     return (8_000_000 if walker == "fd_walk" else 40_000_000) // entries + 1
 
 
@@ -160,14 +166,14 @@ for _ in range(runs):
             used = seconds(words(walker, size, rounds))
             least[walker, size, rounds] = min(used, least.get((walker, size, rounds), math.inf))
 
-print("  pages apart   GiB   fd_walk us   nested us   ratio   lookup us")
+print("  pages   GiB   fd_walk us   nested us   ratio   lookup us")
 for size in SIZES:
     time = {}
     for walker in (walker for walker, timed in WALKS if timed == size):
         rounds = many(walker, size)
         time[walker] = (least[walker, size, rounds] - least[walker, size, 0]) / rounds * 1e6
-    gigabytes, pages, apart = size
-    line = f"{pages:7} {apart:5} {gigabytes:5} {time['fd_walk']:12.3f} {time['nested']:11.3f}"
+    gigabytes, pages = size
+    line = f"{pages:7} {gigabytes:5} {time['fd_walk']:12.3f} {time['nested']:11.3f}"
     line += f" {time['fd_walk'] / time['nested']:7.1f}"
     if "lookup" in time:
         line += f" {time['lookup']:11.0f}"

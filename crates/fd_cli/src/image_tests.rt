@@ -1,40 +1,71 @@
-//! Images that are made of a number and dumped, over partitions in memory.
+//! Images that are made of a number, written to files and dumped, over partitions and files in memory.
 
-use crate::tests::{check, partition};
+use crate::tests::{check, failing_partition, partition, read_sectors};
+use fd_fake::MemSite;
 use fd_site::Site;
 use std::alloc::Global;
 use std::process::Abort;
 use std::test::Fail;
 
-// The image of a number is dumped, and its dump is found.
-fn dumps<S: Site>(
+// An image of the number 7 is written to a file, and the file is dumped.
+fn writes_and_dumps<S: Site>(
     rt: &impl Abort,
     alloc: Global,
     site: &mut S,
-    image: &str,
-    lines: (&str, &str),
+    arch: &str,
+    line: &str,
 ) -> Result<(), Fail> {
-    let (dumped, found) = lines;
-    check(rt, alloc, site, &["dump", image], 0, dumped)?;
-    check(rt, alloc, site, &["savecore", "-C"], 0, found)
+    check(rt, alloc, site, &["image", arch, "7", "a.img"], 0, line)?;
+    check(rt, alloc, site, &["dump", "a.img"], 0, "dumped 90112\n")
 }
 
-fn dumps_small(rt: &impl Abort, alloc: Global, image: &str) -> Result<(), Fail> {
+// The dump of 90112 bytes on a partition of 262144.
+fn dumped_bytes(rt: &impl Abort, alloc: Global, site: &mut MemSite) -> Result<Vec<u8>, Fail> {
+    let mut bytes = vec![in alloc; 0u8; 90112]?;
+    read_sectors(rt, site, 171520, &mut bytes);
+    Ok(bytes)
+}
+
+fn dump_of_file(rt: &impl Abort, alloc: Global, arch: &str, line: &str) -> Result<Vec<u8>, Fail> {
     let mut site = partition(alloc, 262144, 512)?;
-    let lines = ("dumped 90112\n", "dump 90112\n");
-    dumps(rt, alloc, &mut site, image, lines)
+    writes_and_dumps(rt, alloc, &mut site, arch, line)?;
+    dumped_bytes(rt, alloc, &mut site)
+}
+
+fn dump_of_number(rt: &impl Abort, alloc: Global, image: &str) -> Result<Vec<u8>, Fail> {
+    let mut site = partition(alloc, 262144, 512)?;
+    check(rt, alloc, &mut site, &["dump", image], 0, "dumped 90112\n")?;
+    dumped_bytes(rt, alloc, &mut site)
+}
+
+// The dump of an image that is made, and of its file, is one.
+fn are_one(
+    rt: &impl Abort,
+    alloc: Global,
+    arch: &str,
+    image: &str,
+    line: &str,
+) -> Result<(), Fail> {
+    let of_file = dump_of_file(rt, alloc, arch, line)?;
+    let of_number = dump_of_number(rt, alloc, image)?;
+    assert!(rt; of_file.as_slice() == of_number.as_slice());
+    Ok(())
 }
 
 #[test]
-fn an_image_of_a_number_is_dumped(rt: HostRuntime) -> Result<(), Fail> {
+fn an_image_that_is_made_is_dumped_as_its_file_is(rt: HostRuntime) -> Result<(), Fail> {
     let alloc = rt.alloc();
-    for image in ["@amd64:7", "@arm64:0x7", "@riscv:7"] {
-        dumps_small(&rt, alloc, image)?;
+    for (arch, image, line) in [
+        ("amd64", "@amd64:7", "image a.img 86098\n"),
+        ("arm64", "@arm64:0x7", "image a.img 86098\n"),
+        ("riscv", "@riscv:7", "image a.img 82002\n"),
+    ] {
+        are_one(&rt, alloc, arch, image, line)?;
     }
     Ok(())
 }
 
-// Words that are no command, and ask nothing of the site.
+// Words that are no command, and write nothing.
 fn is_no_command(rt: &impl Abort, alloc: Global, words: &[&str]) -> Result<(), Fail> {
     let mut site = partition(alloc, 262144, 512)?;
     check(
@@ -58,16 +89,58 @@ fn an_image_is_named_by_a_file_or_a_number(rt: HostRuntime) -> Result<(), Fail> 
         "@amd64:",
         "@amd64:-1",
         "@amd64:x",
+        "@amd64: 1",
         "@amd65:1",
         "@i386:1",
         "amd64:1",
         "@aarch64:1",
+        "@@amd64:1",
         "@amd64:1:1",
         "@amd64:18446744073709551616",
         "dumpdev",
         "",
     ] {
         is_no_command(&rt, alloc, &["dump", image])?;
+    }
+    for (arch, number, file) in [
+        ("x", "1", "a.img"),
+        ("amd64", "one", "a.img"),
+        ("amd64", "1", "dumpdev"),
+        ("amd64", "1", "@amd64:1"),
+    ] {
+        is_no_command(&rt, alloc, &["image", arch, number, file])?;
+    }
+    Ok(())
+}
+
+// The image that is written where one call fails, and then the image without a fault.
+fn fails_and_writes<S: Site>(rt: &impl Abort, alloc: Global, site: &mut S) -> Result<(), Fail> {
+    let words = ["image", "riscv", "0", "a.img"];
+    check(rt, alloc, site, &words, 74, "")?;
+    check(rt, alloc, site, &words, 0, "image a.img 53314\n")
+}
+
+fn fails_at(rt: &impl Abort, alloc: Global, failing: u64) -> Result<(), Fail> {
+    let mut site = failing_partition(alloc, 0, 512, vec![in alloc; failing]?)?;
+    fails_and_writes(rt, alloc, &mut site)?;
+    assert_eq!(rt; site.starved(), 0);
+    Ok(())
+}
+
+// How many calls it takes to write the image.
+fn calls_of_image(rt: &impl Abort, alloc: Global) -> Result<u64, Fail> {
+    let mut site = partition(alloc, 0, 512)?;
+    let words = ["image", "riscv", "0", "a.img"];
+    check(rt, alloc, &mut site, &words, 0, "image a.img 53314\n")?;
+    Ok(site.calls())
+}
+
+#[test]
+fn an_image_of_which_any_call_fails_is_not_announced(rt: HostRuntime) -> Result<(), Fail> {
+    let alloc = rt.alloc();
+    let calls = calls_of_image(&rt, alloc)?;
+    for failing in 0..calls {
+        fails_at(&rt, alloc, failing + 1)?;
     }
     Ok(())
 }

@@ -1,6 +1,5 @@
 -- The pages of a plan's minidump, section by section.
 use Rattle.std.proofs.Common.{◌≡◌, ◌∙◌, ℕ, ◌+◌, ◌-◌, ◌*◌, ◌/◌, ◌%◌, ◌^◌, ◌<◌, ◌≤◌, List, length, slice_range, ap, sym, arith}
-use Rattle.std.specs.Int.{div_ceil}
 use Rattle.fd_bitmap.specs.Bits.{set_count}
 use Rattle.fd_image.specs.Image.{MachineImage, IsValid}
 use Rattle.fd_mini.specs.Page as mini
@@ -56,9 +55,6 @@ module _ (plan : Planned) (m : MachineImage) (p : Places) (at : ℕ) (is_plan : 
       (omega (arith, ap (λ p. p.avail) here, sizes.length-filled m.texts.msgbuf))
       ∙ ap (λ p. nth_page (filled m.texts.msgbuf) ((at - p.msgbuf) / 4096)) (sym here)
 
-  pub msgbuf-within : p.msgbuf ≤ at → at < p.avail → 4096 * ((at - p.msgbuf) / 4096) < length m.texts.msgbuf
-  msgbuf-within from to = omega (arith, ap (λ p. p.msgbuf) here, ap (λ p. p.avail) here)
-
   pub ranges-page : p.avail ≤ at → at < p.bitmap → slice_range (minidump_of m) at (at + 4096) ≡ nth_page (filled (avail_bytes m.avail)) ((at - p.avail) / 4096)
   ranges-page from to =
       page-in (filled (avail_bytes m.avail)) (minidump_of m) (places_of (mini_header_of m)).avail at (sections.Stands-ranges m is_plan.valid) (omega arith)
@@ -75,9 +71,6 @@ module _ (plan : Planned) (m : MachineImage) (p : Places) (at : ℕ) (is_plan : 
       (omega (arith, sections.length-bitmap m is_plan.valid)) aligned (omega (arith, ap (λ p. p.bitmap) here))
       (omega (arith, ap (λ p. p.directory) here, sections.length-bitmap m is_plan.valid))
       ∙ ap (λ p. nth_page (filled (bitmap_bytes (dumped_bits m))) ((at - p.bitmap) / 4096)) (sym here)
-
-  pub bitmap-within : p.bitmap ≤ at → at < p.directory → 4096 * ((at - p.bitmap) / 4096) < div_ceil (length (dumped_bits m)) 8
-  bitmap-within from to = omega (arith, ap (λ p. p.bitmap) here, ap (λ p. p.directory) here)
 
   pub directory-within : p.directory ≤ at → at < p.pages → (at - p.directory) / 4096 < m.windows.kernspan / page_span m.arch
   directory-within from to = omega (arith, ap (λ p. p.directory) here, ap (λ p. p.pages) here, whole_of m.arch m.windows (window_divided m is_plan.valid))

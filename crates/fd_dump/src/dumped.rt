@@ -5,7 +5,7 @@ ghost use Rattle.fd_image.specs.Image.{direct_map_end};
 ghost use Rattle.fd_bitmap.specs.Pages.{pages_of};
 ghost use Rattle.fd_dump.specs.Dumped.{is_reached, is_under_leaf, is_mapped, is_last_table, dumps_last_tables, dumped_bits};
 ghost use Rattle.fd_dump.specs.Serves.{Serves};
-ghost use Rattle.fd_dump.specs.Marks.{marked};
+ghost use Rattle.fd_dump.specs.Marks.{marked, IsMarking};
 
 use fd_bitmap::{Avail, Bitmap};
 use fd_bytes::Arch;
@@ -84,10 +84,7 @@ fn mark_mapped<E: Entry, const LEVELS: usize>(
     windows: &Windows,
     image: &Image,
 )
-    requires serves { Serves E.kind_of E.DIRECTORY_HEIGHT E.expansion LEVELS image.now }
-    requires windows { windows.now ≡ image.now.windows }
-    requires low { direct_map_end windows.now ≤ 2 ^ 56 }
-    requires bits { length map.old ≡ length avail.now }
+    requires { IsMarking E.kind_of E.DIRECTORY_HEIGHT E.expansion LEVELS image.now windows.now avail.now map.old }
     ensures marks { map.new ≡ marked windows.now (is_mapped image.now) avail.now map.old }
     ensures bits { length map.new ≡ length map.old }
 {
@@ -112,10 +109,7 @@ fn mark_last_tables<E: Entry, const LEVELS: usize>(
     windows: &Windows,
     image: &Image,
 )
-    requires serves { Serves E.kind_of E.DIRECTORY_HEIGHT E.expansion LEVELS image.now }
-    requires windows { windows.now ≡ image.now.windows }
-    requires low { direct_map_end windows.now ≤ 2 ^ 56 }
-    requires bits { length map.old ≡ length avail.now }
+    requires { IsMarking E.kind_of E.DIRECTORY_HEIGHT E.expansion LEVELS image.now windows.now avail.now map.old }
     ensures marks { map.new ≡ marked windows.now (is_last_table image.now) avail.now map.old }
     ensures bits { length map.new ≡ length map.old }
 {
@@ -138,10 +132,7 @@ fn mark_dumped_tables<E: Entry, const LEVELS: usize>(
     windows: &Windows,
     image: &Image,
 )
-    requires serves { Serves E.kind_of E.DIRECTORY_HEIGHT E.expansion LEVELS image.now }
-    requires windows { windows.now ≡ image.now.windows }
-    requires low { direct_map_end windows.now ≤ 2 ^ 56 }
-    requires bits { length map.old ≡ length avail.now }
+    requires { IsMarking E.kind_of E.DIRECTORY_HEIGHT E.expansion LEVELS image.now windows.now avail.now map.old }
     ensures marks { map.new ≡ marked windows.now (λ address. dumps_last_tables image.now.arch && is_last_table image.now address) avail.now map.old }
 {
     if image.arch().profile().dumps_last_tables {

@@ -1,8 +1,8 @@
 -- A file that was opened, without the pages that are kept of it. No public clause cites these.
-use Rattle.std.specs.Prelude.{ℕ, ◌+◌, ◌-◌, ◌%◌, ◌≤◌, List, length, Option, IsSomeAnd}
-use Rattle.fd_site.specs.Contents.{Contents, file_of}
+use Rattle.std.specs.Prelude.{ℕ, ◌+◌, ◌-◌, ◌%◌, ◌≤◌, List, length}
+use Rattle.fd_site.specs.Contents.{Contents}
 use Rattle.fd_vmcore.specs.Sections.{Sections}
-use Rattle.fd_kvm.specs.Reader.{Reader, StandsFor}
+use Rattle.fd_kvm.specs.Reader.{StandsFor}
 
 -- its name, and its sections
 pub record OpenFile : Type 0 where

@@ -1,5 +1,5 @@
 -- What the parts of a read answer. No public clause cites these.
-use Rattle.std.specs.Prelude.{◌≡◌, ℕ, ◌+◌, ◌-◌, ◌%◌, ◌<◌, ◌≤◌, Bool, ◌&&◌, ◌||◌, not, nat_lt, if◌then◌else◌, min, List, length, slice_index, take, drop, None, Result, Ok, Err}
+use Rattle.std.specs.Prelude.{◌≡◌, ℕ, ◌+◌, ◌-◌, ◌%◌, ◌<◌, Bool, ◌&&◌, ◌||◌, not, nat_lt, if◌then◌else◌, min, List, slice_index, take, drop, None, Result, Ok, Err}
 use Rattle.fd_mini.specs.Kernel.{bytes_from}
 use Rattle.fd_mini.specs.Layout.{unit_of}
 use Rattle.fd_mini.specs.declared.header.MiniHeader.{MiniHeader}

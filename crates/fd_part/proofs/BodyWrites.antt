@@ -5,7 +5,7 @@ use Rattle.std.proofs.lemmas.List.Folds.{concat-append}
 use Rattle.std.specs.List.{concat}
 use Rattle.fd_site.specs.Journal.{Entry, kept_sectors, sectors_of}
 use Rattle.fd_site.specs.Contents.{Contents, Adds, whole_part, with_entries}
-use Rattle.fd_site.proofs.Told.{adds_then, with_entries-nil}
+use Rattle.fd_site.proofs.Told.{adds_then}
 use Rattle.fd_site.proofs.Written.{in_pieces-append}
 use Rattle.fd_part.specs.Dump.{AllSectors, writes_from}
 use Rattle.fd_part.specs.Writes.{Begins, IsWriteOf, IsWritesOf, Stops}
@@ -16,10 +16,7 @@ AllSectors-append : (ps qs : List (List ℕ)) → AllSectors ps → AllSectors q
 AllSectors-append [] qs a b = b
 AllSectors-append (p ∷ ps) qs a b = (a.0, AllSectors-append ps qs a.1 b)
 
--- no bytes, one piece, and pieces behind others
-pub no_writes : (at : ℕ) → IsWritesOf at [] []
-no_writes at = record { pieces = []; sectors = tt; joined = refl; is = refl }
-
+-- one piece, and pieces behind others
 pub one_write : (at : ℕ) (p : List ℕ) (writes : List Entry) → length p % 512 ≡ 0 → IsWriteOf at p writes → IsWritesOf at p writes
 one_write at p writes whole is = record { pieces = p ∷ []; sectors = (whole, tt); joined = append-nil p; is = is }
 
@@ -51,13 +48,6 @@ pub record WroteBut (from : ℕ) (all rest : List ℕ) (old new : Option Content
   pub front : List ℕ
   pub joined : front ++ rest ≡ all
   pub adds : Adds (IsWritesOf from front) old new
-
-pub wrote_nothing : (from : ℕ) (all : List ℕ) (told : Option Contents) → WroteBut from all all told told
-wrote_nothing from all told = record { front = []; joined = refl; adds = ([], no_writes from, with_entries-nil told) }
-
-pub wrote_all : (from : ℕ) (all rest : List ℕ) (old new : Option Contents) → rest ≡ [] → WroteBut from all rest old new → Adds (IsWritesOf from all) old new
-wrote_all from all rest old new none w =
-    subst (λ (l : List ℕ). Adds (IsWritesOf from l) old new) (sym (append-nil w.front) ∙ ap (λ (l : List ℕ). w.front ++ l) (sym none) ∙ w.joined) w.adds
 
 -- a piece more, whole or not
 module _ (from at : ℕ) (all to_come p rest : List ℕ) (old mid new : Option Contents) (wrote : WroteBut from all to_come old mid) (more : to_come ≡ p ++ rest)

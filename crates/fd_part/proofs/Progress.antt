@@ -1,11 +1,10 @@
 -- Planned writes that began, stopped, or came to their end, and what follows for longer plans.
-use Rattle.std.proofs.Common.{◌≡◌, inl, inr, ℕ, ◌+◌, ◌*◌, ◌/◌, ◌<◌, ◌≤◌, List, [], ◌∷◌, ◌++◌, length, take, true, Option, Result, Ok, Err, OnErr}
+use Rattle.std.proofs.Common.{◌≡◌, inr, ℕ, ◌+◌, ◌*◌, ◌/◌, ◌<◌, List, [], ◌∷◌, ◌++◌, length, take, true, Option, Result, Ok, Err, OnErr}
 use Rattle.std.proofs.Common.{refl, sym, ◌∙◌, ap, arith, length-append}
-use Rattle.std.proofs.lemmas.List.{length-replicate, length-take-le, take-append-le, take-take}
+use Rattle.std.proofs.lemmas.List.{length-replicate, length-take-le, take-append-le}
 use Rattle.std.proofs.Math.Seq.{take-append-add}
-use Rattle.fd_site.specs.Begun.{IsBegun}
 use Rattle.fd_site.specs.Journal.{Entry, Part, Sector, all_kept, kept_sectors}
-use Rattle.fd_site.specs.Contents.{Contents, Adds, IsFailedPart, whole_part, with_entries}
+use Rattle.fd_site.specs.Contents.{Contents, Adds, whole_part, with_entries}
 use Rattle.fd_site.proofs.Begun.{IsBegun-behind, IsBegun-within}
 use Rattle.fd_site.proofs.Told.{behind, with_entries-nil}
 use Rattle.fd_part.specs.Writes.{Begins, IsWriteOf, Stops}
@@ -62,32 +61,6 @@ module _ (P Q R : List Entry → Type 0) (joins : (us vs : List Entry) → P us 
             ∙ sym ((λ i. take (place i) (joined i)) ∙ take-append-add before all n);
         short = omega (arith, place, s.short, ap length joined, length-append before all);
       }
-
--- one write that failed, of these bytes or of a front of them
-begins_part : (at : ℕ) (bytes front : List ℕ) (old new : Option Contents) → length front ≤ length bytes
-    → ((n : ℕ) → n ≤ length front → take n front ≡ take n bytes) → Adds (IsFailedPart at front) old new → Begins (IsWriteOf at bytes) old new
-begins_part at bytes front old new shorter is_front (added, failed, told) = record {
-  planned = whole_part at bytes ∷ [];
-  is_planned = refl;
-  added = added;
-  begun = begun added failed;
-  told = told;
-}
-  where
-    begun : (es : List Entry) → IsFailedPart at front es → IsBegun (whole_part at bytes ∷ []) es
-    begun [] failed = tt
-    begun (e ∷ es) (inl none) = inr (inl none)
-    begun (e ∷ es) (inr (kept, fits, one)) =
-        inr (inr (kept, omega (arith, fits, shorter), one ∙ ap (λ (l : List ℕ). Part at l kept ∷ []) (is_front (length kept * 512) fits)))
-
-pub begins_write : (at : ℕ) (bytes : List ℕ) (old new : Option Contents) → Adds (IsFailedPart at bytes) old new → Begins (IsWriteOf at bytes) old new
-begins_write at bytes old new failed = begins_part at bytes bytes old new (omega arith) (λ n le. refl) failed
-
-pub begins_front : (at : ℕ) (bytes : List ℕ) (n : ℕ) (old new : Option Contents) → n ≤ length bytes
-    → Adds (IsFailedPart at (take n bytes)) old new → Begins (IsWriteOf at bytes) old new
-begins_front at bytes n old new le failed =
-    let size : length (take n bytes) ≡ n = length-take-le n bytes le in
-    begins_part at bytes (take n bytes) old new (omega (arith, size, le)) (λ m fits. take-take m n bytes (omega (arith, size, fits))) failed
 
 -- one write that stopped before it began
 pub stops_before : (at : ℕ) (bytes : List ℕ) (n : ℕ) (old new : Option Contents) → n ≡ 0 → n < length bytes / 512 → new ≡ old → Stops (IsWriteOf at bytes) n old new

@@ -98,6 +98,7 @@ impl Core {
     pub fn no_page_is_past_the_top(&self)
         ensures { (pa : ℕ) → 2 ^ 64 ≤ pa → page_offset self.now pa ≡ None }
     {
+        // Looking at a field makes the invariant known.
         let _avail = &self.avail;
     }
 

@@ -13,7 +13,7 @@ use Rattle.fd_image.specs.Physical.{has_address, segment_of, page_start, page_in
 use Rattle.fd_image.specs.declared.parts.Seg.{Seg}
 use Rattle.fd_image.proofs.Valid.{segment_found}
 use Rattle.fd_dump.proofs.Stands.{Stands-range, range_within-Stands}
-use Rattle.fd_way.proofs.DumpedPages.{IsPageIn, page_inside, length-page_in, segment_of-start}
+use Rattle.fd_way.proofs.PageStarts.{IsPageIn, page_inside, length-page_in, segment_of-start}
 
 -- an element that is found has what all elements have
 found_all : {X : Type 0} (P : X → Type 0) (p : X → Bool) (xs : List X) (x : X) → All P xs → find p xs ≡ Some x → P x

@@ -1,12 +1,12 @@
 mod AvailBack
 mod BitmapBits
 mod Digits
-mod DumpedPages
 mod ImageWords
 mod Limits
 mod Lines
 mod Located
 mod Opening
+mod PageStarts
 mod Pieces
 pub mod SameReads
 mod TableEntries

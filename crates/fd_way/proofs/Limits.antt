@@ -1,13 +1,11 @@
 -- What the rules of a valid image say of its pairs and windows, in numbers.
-use Rattle.std.proofs.Common.{◌≡◌, ℕ, ◌+◌, ◌*◌, ◌/◌, ◌%◌, ◌<◌, ◌≤◌, ◌^◌, Bool, true, false, cond, ◌&&◌, List, ◌∷◌, length, map, get_or, nat_le, Option, Some, None, sym, ◌∙◌, ap, arith}
+use Rattle.std.proofs.Common.{◌≡◌, ℕ, ◌+◌, ◌*◌, ◌/◌, ◌%◌, ◌<◌, ◌≤◌, ◌^◌, Bool, true, false, cond, List, ◌∷◌, length, map, get_or, Option, Some, None, sym, ◌∙◌, ap, arith}
 use Rattle.std.specs.Prelude.{◌==◌}
 use Rattle.std.proofs.lemmas.Bool.Decides.{nat_tests}
-use Rattle.std.proofs.lemmas.List.Folds.{Any-from_list_any}
 use Rattle.fd_bytes.specs.Profile.{profile_of}
 use Rattle.fd_bytes.specs.declared.arch.Arch.{Arch}
 use Rattle.fd_bytes.specs.declared.arch.Arch.TheVariants.{Amd64, Arm64, Riscv}
-use Rattle.fd_image.specs.Image.{MachineImage, IsValid, end_of, first_failing, beside_the_one_before, is_range_of_pages, ragged_pair, pair_end, pair_begins_at_or_after, lies_in_segment, is_direct_map}
-use Rattle.fd_image.specs.declared.parts.Seg.{Seg}
+use Rattle.fd_image.specs.Image.{MachineImage, IsValid, first_failing, beside_the_one_before, is_range_of_pages, ragged_pair, pair_end, pair_begins_at_or_after, is_direct_map}
 use Rattle.fd_image.specs.declared.parts.Windows.{Windows}
 use Rattle.fd_image.proofs.Places.{length-beside, get_or-beside}
 use Rattle.fd_image.proofs.Valid.{rules_kept, passes, kept}
@@ -43,24 +41,6 @@ pair_after m valid k within d =
     passes pair_begins_at_or_after (beside_the_one_before pair_end m.avail) in_order k (omega (arith, length-beside pair_end m.avail)) (0, d) in
     let here : pair_begins_at_or_after (get_or (0 ∷ map pair_end m.avail) k 0, get_or m.avail k d) ≡ true = ap pair_begins_at_or_after (sym (get_or-beside pair_end m.avail k d within)) ∙ test in
     grind (arith, nat_tests, here)
-
--- some segment has the whole pair
-pub record IsInSegment (m : MachineImage) (pair : ℕ × ℕ) : Type 0 where
-  pub seg : Seg
-  pub index : ℕ
-  pub within : index < length m.segs
-  pub is : get_or m.segs index seg ≡ seg
-  pub from : seg.start ≤ pair.0
-  pub to : pair.1 ≤ end_of seg
-
-pub pair_inside : (m : MachineImage) → IsValid m → (k : ℕ) → k < length m.avail → (d : ℕ × ℕ) → IsInSegment m (get_or m.avail k d)
-pair_inside m valid k within d =
-    let pair : ℕ × ℕ = get_or m.avail k d in
-    let any = Any-from_list_any (λ (seg : Seg). nat_le seg.start pair.0 && nat_le pair.1 (end_of seg)) m.segs
-    (passes (lies_in_segment m.segs) m.avail (rules_kept m valid.unbroken).pairs_inside k within d) in
-    let seg : Seg = any.1 in
-    let test : (nat_le seg.start pair.0 && nat_le pair.1 (end_of seg)) ≡ true = any.4 in
-    record { seg = seg; index = any.0; within = any.2; is = any.3; from = grind (arith, nat_tests, test); to = grind (arith, nat_tests, test) }
 
 -- the windows
 pub record AreWindows (arch : Arch) (w : Windows) : Type 0 where

@@ -2,15 +2,15 @@
 use Rattle.std.proofs.Common.{◌≡◌, ◌⊎◌, ℕ, zero, suc, ◌+◌, ◌-◌, ◌*◌, ◌/◌, ◌<◌, ◌≤◌, Bool, true, false, ◌&&◌, ◌||◌, nat_le, nat_lt, List, [], ◌∷◌, ◌++◌, length, take, get_or, position, Option, Some, None, refl, sym, ◌∙◌, ap, subst, arith, inl, inr}
 use Rattle.std.specs.Prelude.{◌==◌, if◌then◌else◌}
 use Rattle.std.specs.List.{list_any, position_or_len, range_with_len}
-use Rattle.std.specs.Option.{option_and_then}
+use Rattle.std.specs.Option.{option_and_then, option_map}
 use Rattle.std.proofs.lemmas.Bool.{cases_Bool, eqb-true, eq-eqb}
 use Rattle.std.proofs.lemmas.Bool.Decides.{nat_tests}
-use Rattle.std.proofs.lemmas.List.{get_or-map, get_or_append_left, take-append-le, length-map, get_or_default}
+use Rattle.std.proofs.lemmas.List.{get_or-map, get_or_append_left, take-append-le, take_all, length-map, get_or_default}
 use Rattle.std.proofs.lemmas.List.Folds.{Any-from_list_any, list_any_at, list_any-append}
 use Rattle.std.proofs.lemmas.List.FromFn.{length-range_with_len, get_or-range_with_len}
 use Rattle.std.proofs.lemmas.List.Quantifiers.{position-Some}
 use Rattle.std.proofs.lemmas.List.Sums.{fails_before_first}
-use Rattle.std.proofs.lemmas.Option.{unwrap_or-slice_get}
+use Rattle.std.proofs.lemmas.Option.{slice_get-get_or, unwrap_or-slice_get}
 use Rattle.fd_image.specs.Image.{MachineImage, IsValid}
 use Rattle.fd_image.specs.Physical.{page_start, page_of}
 use Rattle.fd_bitmap.specs.Bits.{set_count}
@@ -19,12 +19,15 @@ use Rattle.fd_mini.specs.Places.{places_of}
 use Rattle.fd_vmcore.specs.Sections.{has_bit, offset_of_bit, page_offset}
 use Rattle.fd_dump.specs.Dumped.{is_available, is_dumped, pages_with_bits, dumped_bits}
 use Rattle.fd_dump.specs.Minidump.{mini_header_of, memory_of, minidump_of}
+use Rattle.fd_dump.specs.Plan.{Planned}
+use Rattle.fd_dump.specs.Sections.{nth_page, IsRun}
+use Rattle.fd_dump.proofs.DumpedPages.{IsBacked, backed, dumped_available, run_first, Stands-run}
+use Rattle.fd_dump.proofs.SectionPlaces.{Stands-memory}
 use Rattle.fd_dump.proofs.Sizes.{length-bits}
 use Rattle.fd_dump.proofs.Stands.{Stands, Stands-inner}
-use Rattle.fd_way.proofs.DumpedPages.{IsBacked, backed, dumped_available, page_of-start, Stands-dumped}
-use Rattle.fd_way.proofs.Limits.{IsRange, pair_whole, windows_of}
+use Rattle.fd_way.proofs.Limits.{IsRange, pair_whole}
 use Rattle.fd_way.proofs.Opening.{sections_of, clear_bits}
-use Rattle.fd_dump.proofs.SectionPlaces.{Stands-memory}
+use Rattle.fd_way.proofs.PageStarts.{page_of-start}
 
 -- the pages of a pair are among the pages of all
 second_passes : (a b : Bool) → b ≡ true → (a || b) ≡ true
@@ -126,6 +129,30 @@ module _ (m : MachineImage) (valid : IsValid m) where
         offset = ap (option_and_then (offset_of_bit (sections_of m))) some;
       }
 
+  -- the plan of a dump, of which a dumped page is a run
+  abbrev plan : Planned
+  plan = record { header = mini_header_of m; pages = pages_of m.avail; bits = dumped_bits m }
+
+  page_run : (pa bit : ℕ) → HasBit pa bit → is_dumped m (page_start pa) ≡ true → IsRun plan bit (page_start pa) 1
+  page_run pa bit has dumped =
+      let inside : bit < length (pages_of m.avail) = omega (arith, has.within, length-map (pages_of m.avail) (λ (page : ℕ). page * 4096)) in
+      let bit_is : get_or (dumped_bits m) bit false ≡ true =
+      get_or-map (is_dumped m) (pages_with_bits m) bit 0 false has.within ∙ ap (is_dumped m) has.address ∙ dumped in
+      let page_is : get_or (pages_of m.avail) bit 0 * 4096 ≡ page_start pa =
+      sym (get_or-map (λ (page : ℕ). page * 4096) (pages_of m.avail) bit 0 0 inside) ∙ has.address in
+      run_first plan bit (page_start pa)
+      (slice_get-get_or (dumped_bits m) bit false (omega (arith, inside, length-bits m)) ∙ ap Some bit_is)
+      (ap (option_map (λ (page : ℕ). page * 4096)) (slice_get-get_or (pages_of m.avail) bit 0 inside) ∙ ap Some page_is)
+
+  page_stands : (pa bit : ℕ) (page : List ℕ) → HasBit pa bit → is_dumped m (page_start pa) ≡ true → page_of m (page_start pa) ≡ Some page → length page ≡ 4096
+      → Stands page (4096 * set_count (take bit (dumped_bits m))) (memory_of m)
+  page_stands pa bit page has dumped is whole =
+      let place : page_start pa ≡ page_start pa + 4096 * 0 = omega arith in
+      let first : page_of m (page_start pa + 4096 * 0) ≡ Some (nth_page page 0) = sym (ap (page_of m) place) ∙ is ∙ ap Some (sym (take_all 4096 page (omega arith))) in
+      Stands-run plan m (set_count (take bit (dumped_bits m))) bit (page_start pa) 1 1 page
+      (record { valid = valid; header = refl; pages = refl; bits = refl }) (page_run pa bit has dumped) refl (omega arith) (omega arith) (omega arith)
+      (λ i below. let none : 0 ≡ i = omega arith in subst (λ n. page_of m (page_start pa + 4096 * n) ≡ Some (nth_page page n)) none first)
+
   set_bit : (pa bit : ℕ) → HasBit pa bit → is_dumped m (page_start pa) ≡ true → IsDumpedAt pa
   set_bit pa bit has dumped =
       let start : ℕ = (places_of (mini_header_of m)).pages in
@@ -140,7 +167,7 @@ module _ (m : MachineImage) (valid : IsValid m) where
         is = page_of-start m valid pa ∙ b.is;
         whole = b.whole;
         stands = Stands-inner b.page (memory_of m) (minidump_of m) (4096 * set_count (take bit (dumped_bits m))) start (start + 4096 * set_count (take bit (dumped_bits m))) refl
-            (Stands-dumped m valid (pages_with_bits m) bit 0 b.page has.within (ap (is_dumped m) has.address ∙ dumped) (ap (page_of m) has.address ∙ b.is))
+            (page_stands pa bit b.page has dumped b.is b.whole)
             (Stands-memory m valid);
       }
 

@@ -21,14 +21,13 @@ use Rattle.fd_mini.proofs.Layouts.{current_has_dumpavailsize, current_is_known, 
 use Rattle.fd_vmcore.specs.Ranges.{pairs_in, ranges_of, pages_in}
 use Rattle.fd_vmcore.specs.Sections.{Sections, bits_in, pages_end, long_enough, by_pages, bad_range, by_ranges, by_header, opened}
 use Rattle.fd_vmcore.specs.declared.open.OpenFault.{OpenFault}
-use Rattle.fd_dump.specs.Dumped.{pages_with_bits, dumped_bits}
+use Rattle.fd_dump.specs.Dumped.{dumped_bits}
 use Rattle.fd_dump.specs.Minidump.{avail_bytes, bitmap_bytes, filled, mini_header_of, minidump_of}
 use Rattle.fd_dump.proofs.Limits.{small, pages_few}
-use Rattle.fd_dump.proofs.Sizes.{length-avail, length-bits}
+use Rattle.fd_dump.proofs.Sizes.{length-avail, length-bits, length-memory}
 use Rattle.fd_dump.proofs.Stands.{range-Stands}
 use Rattle.fd_way.proofs.AvailBack.{pairs_back, none_bad}
 use Rattle.fd_way.proofs.BitmapBits.{bits_of-filled}
-use Rattle.fd_way.proofs.DumpedPages.{length-memory}
 use Rattle.fd_way.proofs.Limits.{AreWindows, windows_of, pair_whole}
 use Rattle.fd_dump.proofs.SectionPlaces.{length-ranges, length-bitmap, Stands-header, Stands-ranges, Stands-bitmap, length-file}
 
@@ -148,7 +147,7 @@ module _ (m : MachineImage) (valid : IsValid m) where
   -- the file ends where its dumped pages do
   ends : pages_end (sections_of m) ≡ length file
   ends =
-      omega (arith, length-file m valid, length-memory m valid (pages_with_bits m), set_count-append (dumped_bits m) (clear_bits m), set_count-clear (clear_count m))
+      omega (arith, length-file m valid, length-memory m valid, set_count-append (dumped_bits m) (clear_bits m), set_count-clear (clear_count m))
 
   pub opens : AreReadBack → opened file ≡ Ok (sections_of m)
   unfolding opened

@@ -3,14 +3,14 @@
 -- Both sides answer address by address, and in three steps: the file is opened, the kernel address is translated to a
 -- physical one, and the byte there is looked up. Each step of the file's side is shown to be the image's.
 --
--- Opening (`Opening`). The file is six sections joined, and `SectionPlaces` says that each stands where the header page
--- says; `Stands` is the word for a part of a list at its place. From the sections the reader gets back the header
--- (by the law that header pages are read back, within the limits that `Limits` draws from the rules of a valid image),
+-- Opening (`Opening`). The file is six sections joined, and `SectionPlaces` of `fd_dump` says that each stands where the
+-- header page says; `Stands` is the word for a part of a list at its place. From the sections the reader gets back the
+-- header (by the law that header pages are read back, within the limits that `Limits` draws from the rules of a valid image),
 -- the ranges (`AvailBack`) and the bits (`BitmapBits`), with clear bits behind those of the pages.
 --
 -- Lookup (`Located`). Each physical address either has a page that is dumped, or not. If so, its bit is set, and its 4096
--- bytes stand behind the pages of the set bits below (`DumpedPages`). If not, its bit is clear, or it has none since it
--- isn't available.
+-- bytes stand behind the pages of the set bits below, as a run of one page that the dump's plan has. If not, its bit is
+-- clear, or it has none since it isn't available.
 --
 -- Translation (`Translated`). In the direct map both sides compute the same. In the kernel window the directory has the
 -- entry of the address's unit (`Units`): the entry of the image's tables, or a unit of the larger leaf that maps the

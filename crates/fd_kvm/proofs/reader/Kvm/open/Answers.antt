@@ -1,9 +1,7 @@
 -- Where no memory is left for the name or the pages, the file had been opened; no page of it is kept yet.
-use Rattle.std.proofs.Common.{sym, ◌∙◌}
 use Rattle.std.proofs.lemmas.Result.{err_from_is_err_and}
 use Rattle.fd_site.specs.Contents.{file_of}
 use Rattle.fd_vmcore.proofs.Opened.{has_sections}
-use Rattle.fd_kvm.proofs.Standing.{stands_fresh}
 use Rattle.fd_kvm.proofs.reader.Kvm.open.Goals as goal
 
 pub returns-in_err-name-clause-opening : goal.returns-in_err-name-clause-opening

@@ -1,5 +1,5 @@
 -- A part of a block of the file, and of pages that are the file's.
-use Rattle.std.proofs.Common.{◌≡◌, ◌+◌, ◌-◌, ◌%◌, ◌≤◌, ℕ, List, length, slice_range, IfSome, IsSomeAnd, sym, subst, ◌∙◌, arith}
+use Rattle.std.proofs.Common.{◌≡◌, ◌+◌, ◌-◌, ◌%◌, length, slice_range, IfSome, IsSomeAnd, sym, subst, ◌∙◌}
 use Rattle.fd_site.specs.Contents.{file_of}
 use Rattle.fd_cache.specs.Pages.{HoldsPagesOf}
 use Rattle.fd_kvm.specs.OpenFile.{HasBlock}

@@ -1,7 +1,7 @@
 -- What the leaves of a walk add up to.
 use Rattle.std.specs.Prelude.{◌+◌, ◌%◌, ◌^◌, List, [], ◌∷◌}
 use Rattle.fd_walk.specs.declared.leaf.Leaf.{Leaf}
-use Rattle.fd_walkbench.specs.declared.tally.Tally.{Tally}
+use Rattle.fd_bench.specs.declared.leaves.Tally.{Tally}
 
 -- one leaf more
 abbrev pub tally_with : Tally → Leaf → Tally

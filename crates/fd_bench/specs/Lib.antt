@@ -1,4 +1,2 @@
 -- The definitions that contracts cite.
-pub mod Sizes
 pub mod Tally
-pub mod Words
