@@ -8,7 +8,7 @@ use Rattle.fd_kdh.specs.declared.header.Header.{Header}
 use Rattle.fd_netmsg.specs.Each.{Each}
 use Rattle.fd_netclient.specs.Datagram.{chunks, datagram, chunk_batch, numbers}
 use Rattle.fd_netclient.specs.Trace.{Patience, Outcome, TimedOut, acknowledged, without, left, left_by, IsHeard, AreRounds, AreBatches, OnLeft, session_after, first_port, port_to}
-use Rattle.fd_netclient.specs.Trace.{batch_trace, trace_of, IsClientRun}
+use Rattle.fd_netclient.specs.Trace.{batch_trace, trace_of, IsClientRun, IsComplete}
 use Rattle.fd_netclient.specs.Machine.{Place, State, At, Ended, next_batch, next_round, polling, session_by, step_at, Goes, Passes, start}
 use Rattle.fd_netclient.proofs.Machines.{IsSome, IsHeralds, PassesBy, heralds_or_not, later_some, machine_completes}
 
@@ -317,11 +317,15 @@ module _ (dump : List ℕ) (h : Header) (retries n : ℕ) where
         complete = machine_completes dump h calm (omega arith) (trace ++ end.trace) end.outcome (passes_goes (start calm (chunks dump)) trace to end.trace end.outcome passes end.goes);
       }
 
+  -- a complete trace is one of the machine's, and so is each of its starts
+  complete_going : (trace : List LinkEvent) (outcome : Outcome) → IsComplete dump h calm trace outcome → Goes dump h calm (start calm (chunks dump)) trace outcome
+  complete_going trace outcome complete =
+      subst (λ (q : List LinkEvent). Goes dump h calm (start calm (chunks dump)) q outcome) (sym complete.is)
+      (complete_goes dump h retries n outcome after_herald (later_some (chunks dump)) complete.heard complete.by_rules)
+
   run_passes : (trace : List LinkEvent) → IsClientRun dump h calm trace → (to : State) × Passes dump h calm (start calm (chunks dump)) trace to
   run_passes trace run =
-      goes_passes (start calm (chunks dump)) trace run.rest run.outcome
-      (subst (λ (q : List LinkEvent). Goes dump h calm (start calm (chunks dump)) q run.outcome) (sym run.complete.is)
-      (complete_goes dump h retries n run.outcome after_herald (later_some (chunks dump)) run.complete.heard run.complete.by_rules))
+      goes_passes (start calm (chunks dump)) trace run.rest run.outcome (complete_going (trace ++ run.rest) run.outcome run.complete)
 
 pub runs_are_passes : (dump : List ℕ) (h : Header) (retries polls : ℕ) → 1 ≤ polls → (trace : List LinkEvent)
     → (IsClientRun dump h (record { retries = retries; polls = polls }) trace
@@ -330,3 +334,13 @@ pub runs_are_passes : (dump : List ℕ) (h : Header) (retries polls : ℕ) → 1
     → IsClientRun dump h (record { retries = retries; polls = polls }) trace)
 runs_are_passes dump h retries zero some trace = absurd (omega arith)
 runs_are_passes dump h retries (suc n) some trace = (run_passes dump h retries n trace, λ at. passes_run dump h retries n trace at.0 at.1)
+
+-- a complete trace is what the machine does
+pub completes_going : (dump : List ℕ) (h : Header) (patience : Patience) → 1 ≤ patience.polls → (trace : List LinkEvent) (outcome : Outcome)
+    → IsComplete dump h patience trace outcome → Goes dump h patience (start patience (chunks dump)) trace outcome
+completes_going dump h patience some trace outcome complete = by_polls patience.retries patience.polls some complete
+  where
+    by_polls : (retries polls : ℕ) → 1 ≤ polls → IsComplete dump h (record { retries = retries; polls = polls }) trace outcome
+        → Goes dump h (record { retries = retries; polls = polls }) (start (record { retries = retries; polls = polls }) (chunks dump)) trace outcome
+    by_polls retries zero some complete = absurd (omega arith)
+    by_polls retries (suc n) some complete = complete_going dump h retries n trace outcome complete

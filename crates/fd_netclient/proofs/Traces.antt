@@ -16,7 +16,7 @@ pub Each-append : {X : Type 0} (P : X → Type 0) (xs ys : List X) → Each P xs
 Each-append P [] ys all more = more
 Each-append P (x ∷ xs) ys all more = (all.0, Each-append P xs ys all.1 more)
 
-Each-map : {X Y : Type 0} (P : Y → Type 0) (f : X → Y) (xs : List X) → ((x : X) → P (f x)) → Each P (map f xs)
+pub Each-map : {X Y : Type 0} (P : Y → Type 0) (f : X → Y) (xs : List X) → ((x : X) → P (f x)) → Each P (map f xs)
 Each-map P f [] all = tt
 Each-map P f (x ∷ xs) all = (all x, Each-map P f xs all)
 

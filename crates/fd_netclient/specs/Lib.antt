@@ -3,4 +3,5 @@ pub mod Datagram
 pub mod Heard
 pub mod Machine
 pub mod Marks
+pub mod Sending
 pub mod Trace

@@ -22,6 +22,12 @@ pub fn a_done_client_heard_its_last()
         → IsComplete dump h patience trace Done → OneOf (Acks (chunks dump + 3)) trace }
 {}
 
+/// A trace is complete with one outcome at most.
+pub fn a_complete_trace_has_one_outcome()
+    ensures { (dump : List ℕ) (h : Header) (patience : Patience) → 1 ≤ patience.polls → (trace : List LinkEvent) (a b : Outcome)
+        → IsComplete dump h patience trace a → IsComplete dump h patience trace b → a ≡ b }
+{}
+
 /// What the machine does from its start to an outcome is a complete trace with that outcome.
 pub fn each_run_is_a_trace()
     ensures { (dump : List ℕ) (h : Header) (patience : Patience) → 1 ≤ patience.polls → (trace : List LinkEvent) (outcome : Outcome)

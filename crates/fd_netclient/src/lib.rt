@@ -9,9 +9,16 @@
 mod acknowledged;
 mod batch;
 mod client;
+mod datagrams;
+mod fault;
 pub mod laws;
 mod limits;
 mod marks;
+mod sending;
+#[cfg(test)]
+mod tests;
 
 pub use client::{Client, Want};
+pub use fault::ClientFault;
 pub use limits::Limits;
+pub use sending::send_dump;

@@ -1,6 +1,6 @@
 //! Faults of the real thing: each is counted, and the first is said on standard error.
 
-ghost use Rattle.std.specs.Prelude.{◌≡◌, ◌≤◌, OnErr, OnOk};
+ghost use Rattle.std.specs.Prelude.{◌≡◌, ◌≤◌, Ok, IfOk, OnErr, OnOk};
 ghost use Rattle.fd_site.specs.Fault.{Rose};
 
 use fd_site::Failed;
@@ -33,6 +33,7 @@ pub(crate) fn counted<T: Drop, R: Eprint + AllocGlobal>(
     faults: &mut u64,
     outcome: io::Result<T>,
 ) -> Result<T, Failed>
+    ensures value { IfOk result (λ value. outcome ≡ Ok value) }
     ensures same { OnOk result (faults.new ≡ faults.old) }
     ensures rising { faults.old ≤ faults.new }
     ensures cause { OnErr result (Rose faults.old faults.new) }

@@ -1,6 +1,6 @@
-//! The outside of the program over the real thing: a directory of files as a site, and standard output as a sink. They
-//! tell no contents, count each fault, and say the first on standard error: the trusted edge of the program. Beside
-//! them stands what has to be done before anything is opened.
+//! The outside of the program over the real thing: a directory of files as a site, standard output as a sink, and UDP as
+//! a link and as the ports of a server. They tell no contents, count each fault, and say the first on standard error: the
+//! trusted edge of the program. Beside them stands what has to be done before anything is opened.
 #![tactic(auto)]
 
 mod dir_site;
@@ -11,8 +11,13 @@ mod standard;
 mod std_sink;
 #[cfg(test)]
 mod tests;
+mod udp;
+mod udp_link;
+mod udp_ports;
 
 pub use dir_site::DirSite;
 pub use fault::say;
 pub use standard::hold_standard;
 pub use std_sink::StdSink;
+pub use udp_link::UdpLink;
+pub use udp_ports::UdpPorts;

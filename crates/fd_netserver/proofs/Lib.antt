@@ -1,0 +1,21 @@
+mod Alone
+pub mod Apart
+pub mod Covered
+pub mod Finish
+mod Going
+mod Heralds
+mod Isolated
+mod Kept
+pub mod Lists
+pub mod More
+mod Numbers
+pub mod Own
+mod Pacing
+mod Places
+mod Rows
+pub mod Settled
+mod Sound
+mod Standing
+mod Steps
+mod Taking
+mod Turns

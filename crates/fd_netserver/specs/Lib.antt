@@ -1,0 +1,6 @@
+pub mod Files
+pub mod History
+pub mod Serving
+pub mod Session
+pub mod Stands
+pub mod Table

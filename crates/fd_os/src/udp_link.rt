@@ -1,0 +1,174 @@
+//! A server that is reached by UDP, as a link. It tells no contents.
+
+ghost use Rattle.std.specs.Prelude.{◌≡◌, ◌≤◌, None, IfOk};
+ghost use Rattle.fd_site.specs.Trace.{IsPolled};
+
+use crate::fault::counted;
+use crate::udp::{MOST_NAPS, bound, look, nap, not_open, send};
+use fd_site::{Failed, Link, Polled};
+use std::collections::VecDeque;
+use std::io;
+use std::net::{Net, UdpSocket};
+use std::rt::Clock;
+use std::time::Instant;
+
+/// The port of netdump's client (`sys/netinet/netdump/netdump.h`, `NETDUMP_ACKPORT`).
+const CLIENT_PORT: u16 = 20024;
+
+/// How many datagrams are sent at most that nothing was heard of. A socket holds some twenty that aren't read.
+const MOST_UNANSWERED: u32 = 16;
+
+/// How many datagrams are kept at most that came before a poll.
+const MOST_HEARD: usize = 64;
+
+/// A server by UDP. Datagrams of another address are taken for silence, and a poll waits less than a millisecond.
+#[derive(Drop)]
+pub struct UdpLink<'a, R: Net + Clock + Eprint + AllocGlobal> {
+    rt: &'a R,
+    line: Option<Line>,
+    faults: u64,
+}
+
+impl<'a, R: Net + Clock + Eprint + AllocGlobal> UdpLink<'a, R> {
+    /// A link that wasn't opened: until then its calls fail.
+    pub fn new(rt: &'a R) -> UdpLink<'a, R>
+        ensures { ⟦<UdpLink<'a, R> as Link>⟧.seen result ≡ record { told = None; faults = 0 } }
+    {
+        UdpLink {
+            rt,
+            line: None,
+            faults: 0,
+        }
+    }
+}
+
+// A socket, and the server that it speaks to.
+#[derive(Drop)]
+struct Line {
+    socket: UdpSocket,
+    server: u32,
+    // What came while there was no room to send. The next polls bring it.
+    heard: VecDeque<Heard>,
+    // How many datagrams were sent that nothing was heard of.
+    unanswered: u32,
+}
+
+// The first bytes of a datagram of the server, and the port that it came from.
+#[derive(Drop)]
+struct Heard {
+    port: u16,
+    bytes: [u8; 64],
+    len: usize,
+    ghost within: { len ≤ 64 },
+}
+
+impl Line {
+    // The client's port may be taken by another client of this machine, and the server answers any.
+    fn open<R: Net + AllocGlobal>(rt: &R, server: u32) -> io::Result<Line> {
+        let socket = match bound(rt, CLIENT_PORT) {
+            Ok(socket) => socket,
+            Err(_) => bound(rt, 0)?,
+        };
+        Ok(Line {
+            socket,
+            server,
+            heard: VecDeque::new(rt.alloc()),
+            unanswered: 0,
+        })
+    }
+
+    // Takes the datagram that is there, if it is one of the server.
+    fn look(&mut self) -> io::Result<Option<Heard>> {
+        let mut bytes = [0; 64];
+        match look(&self.socket, &mut bytes)? {
+            Some(arrived) if arrived.address == self.server => {
+                self.unanswered = self.unanswered.saturating_sub(1);
+                Ok(Some(Heard {
+                    port: arrived.port,
+                    bytes,
+                    len: arrived.len,
+                }))
+            }
+            _ => Ok(None),
+        }
+    }
+
+    // Waits for a datagram of the server.
+    fn wait<R: Clock>(&mut self, rt: &R) -> io::Result<Option<Heard>> {
+        let began = Instant::now(rt)?;
+        for _ in 0..MOST_NAPS {
+            if let Some(heard) = self.look()? {
+                return Ok(Some(heard));
+            }
+            if !nap(rt, &began)? {
+                break;
+            }
+        }
+        Ok(None)
+    }
+
+    // Sends a datagram, once few enough are unanswered. One that nothing is heard of for a wait is given up.
+    fn send<R: Clock>(&mut self, rt: &R, port: u16, bytes: &[u8]) -> io::Result<()> {
+        if self.unanswered >= MOST_UNANSWERED && self.heard.len() < MOST_HEARD {
+            match self.wait(rt)? {
+                Some(heard) => self.heard.push_back(heard)?,
+                None => self.unanswered = self.unanswered.saturating_sub(1),
+            }
+        }
+        send(rt, &self.socket, bytes, self.server, port)?;
+        self.unanswered = self.unanswered.saturating_add(1);
+        Ok(())
+    }
+
+    // Gives what was heard first. After a silent wait nothing is expected any more of what was sent.
+    fn poll<R: Clock>(&mut self, rt: &R, out: &mut [u8; 64]) -> io::Result<Polled>
+        ensures { IfOk result IsPolled }
+    {
+        let heard = match self.heard.pop_front() {
+            Some(heard) => Some(heard),
+            None => self.wait(rt)?,
+        };
+        match heard {
+            Some(heard) => {
+                let bytes = heard.bytes;
+                *out = bytes;
+                Ok(Polled::Got {
+                    port: heard.port,
+                    len: heard.len,
+                })
+            }
+            None => {
+                self.unanswered = 0;
+                Ok(Polled::Silent)
+            }
+        }
+    }
+}
+
+impl<R: Net + Clock + Eprint + AllocGlobal> Link for UdpLink<'_, R> {
+    ghost seen = { λ l. record { told = None; faults = l.faults } };
+
+    fn open(&mut self, server: u32) -> Result<(), Failed> {
+        // The port of the line that was open before is free then.
+        self.line = None;
+        let line = Line::open(self.rt, server);
+        self.line = Some(counted(self.rt, "netdump client's port", &mut self.faults, line)?);
+        Ok(())
+    }
+
+    fn send(&mut self, port: u16, bytes: &[u8]) -> Result<(), Failed> {
+        let sent = match &mut self.line {
+            Some(line) => line.send(self.rt, port, bytes),
+            None => Err(not_open()),
+        };
+        counted(self.rt, "netdump server", &mut self.faults, sent)
+    }
+
+    fn poll(&mut self, out: &mut [u8; 64]) -> Result<Polled, Failed> {
+        let polled = match &mut self.line {
+            Some(line) => line.poll(self.rt, out),
+            None => Err(not_open()),
+        };
+        counted(self.rt, "netdump server", &mut self.faults, polled)
+    }
+}

@@ -1,0 +1,193 @@
+//! The ports of a server by UDP. They tell no contents.
+
+ghost use Rattle.std.specs.Prelude.{◌≡◌, ◌≤◌, None, IfOk};
+ghost use Rattle.fd_site.specs.Trace.{IsTaken};
+
+use crate::fault::counted;
+use crate::udp::{MOST_NAPS, bound, look, nap, not_open, send};
+use fd_site::{Failed, Peer, Ports, Taken};
+use std::io;
+use std::io::{Error, ErrorKind};
+use std::net::{Net, UdpSocket};
+use std::rt::Clock;
+use std::time::Instant;
+
+/// The port of netdump's server (`sys/netinet/netdump/netdump.h`, `NETDUMP_PORT`).
+const HERALD_PORT: u16 = 20023;
+
+/// The ports of a server by UDP: the herald's, and one that is free for each slot. One look waits less than a millisecond
+/// for all of them, and each has its turn.
+#[derive(Drop)]
+pub struct UdpPorts<'a, R: Net + Clock + Eprint + AllocGlobal> {
+    rt: &'a R,
+    herald: u16,
+    sockets: Option<Sockets>,
+    faults: u64,
+}
+
+impl<'a, R: Net + Clock + Eprint + AllocGlobal> UdpPorts<'a, R> {
+    /// Ports that aren't open: until they listen their calls fail.
+    pub fn new(rt: &'a R) -> UdpPorts<'a, R>
+        ensures { ⟦<UdpPorts<'a, R> as Ports>⟧.seen result ≡ record { told = None; faults = 0 } }
+    {
+        UdpPorts::with_herald(rt, HERALD_PORT)
+    }
+
+    // The same with another port of the herald.
+    pub(crate) fn with_herald(rt: &'a R, herald: u16) -> UdpPorts<'a, R>
+        ensures { ⟦<UdpPorts<'a, R> as Ports>⟧.seen result ≡ record { told = None; faults = 0 } }
+    {
+        UdpPorts {
+            rt,
+            herald,
+            sockets: None,
+            faults: 0,
+        }
+    }
+
+    // The number of the port that a slot has.
+    #[cfg(test)]
+    pub(crate) fn port(&self, slot: u16) -> io::Result<u16> {
+        match &self.sockets {
+            Some(sockets) => match sockets.of_slot(slot) {
+                Some(socket) => Ok(socket.local_addr()?.port()),
+                None => Err(not_open()),
+            },
+            None => Err(not_open()),
+        }
+    }
+}
+
+// The ports that are open.
+#[derive(Drop)]
+struct Sockets {
+    slots: Vec<Slot>,
+    // Counts the looks at them, which go round.
+    looks: usize,
+}
+
+// The port of a slot.
+#[derive(Drop)]
+struct Slot {
+    number: u16,
+    socket: UdpSocket,
+    ghost within: { number ≤ 16 },
+}
+
+impl Sockets {
+    // Opens the herald's port.
+    fn listen<R: Net + AllocGlobal>(rt: &R, herald: u16) -> io::Result<Sockets> {
+        let socket = bound(rt, herald)?;
+        let mut slots = Vec::new(rt.alloc());
+        slots.push(Slot { number: 0, socket })?;
+        Ok(Sockets { slots, looks: 0 })
+    }
+
+    // The socket of a slot.
+    fn of_slot(&self, slot: u16) -> Option<&UdpSocket> {
+        for open in &self.slots {
+            if open.number == slot {
+                return Some(&open.socket);
+            }
+        }
+        None
+    }
+
+    // Opens a port for a slot that has none.
+    fn open_slot<R: Net>(&mut self, rt: &R, slot: u16) -> io::Result<()> {
+        if slot > 16 {
+            return Err(Error::new(ErrorKind::InvalidInput, "No such slot"));
+        }
+        if self.of_slot(slot).is_none() {
+            self.slots.push(Slot {
+                number: slot,
+                socket: bound(rt, 0)?,
+            })?;
+        }
+        Ok(())
+    }
+
+    // Looks at each port once, in turn.
+    fn look(&mut self, out: &mut [u8; 8192]) -> io::Result<Taken>
+        ensures { IfOk result IsTaken }
+    {
+        let count = self.slots.len();
+        for _ in 0..count {
+            self.looks = self.looks.wrapping_add(1);
+            if let Some(open) = self.slots.get(self.looks % count) {
+                if let Some(arrived) = look(&open.socket, out)? {
+                    return Ok(Taken::Got {
+                        slot: open.number,
+                        peer: Peer {
+                            address: arrived.address,
+                            port: arrived.port,
+                        },
+                        len: arrived.len,
+                    });
+                }
+            }
+        }
+        Ok(Taken::Silent)
+    }
+
+    // Waits for a datagram at one of the ports.
+    fn wait<R: Clock>(&mut self, rt: &R, out: &mut [u8; 8192]) -> io::Result<Taken>
+        ensures { IfOk result IsTaken }
+    {
+        let began = Instant::now(rt)?;
+        for _ in 0..MOST_NAPS {
+            let taken = self.look(out)?;
+            if !matches!(taken, Taken::Silent) {
+                return Ok(taken);
+            }
+            if !nap(rt, &began)? {
+                break;
+            }
+        }
+        Ok(Taken::Silent)
+    }
+
+    // Answers a peer from the port of a slot.
+    fn answer<R: Clock>(&self, rt: &R, slot: u16, peer: Peer, bytes: &[u8; 4]) -> io::Result<()> {
+        match self.of_slot(slot) {
+            Some(socket) => send(rt, socket, bytes, peer.address, peer.port),
+            None => Err(not_open()),
+        }
+    }
+}
+
+impl<R: Net + Clock + Eprint + AllocGlobal> Ports for UdpPorts<'_, R> {
+    ghost seen = { λ p. record { told = None; faults = p.faults } };
+
+    fn listen(&mut self) -> Result<(), Failed> {
+        // What was open before is free then.
+        self.sockets = None;
+        let sockets = Sockets::listen(self.rt, self.herald);
+        self.sockets = Some(counted(self.rt, "port 20023", &mut self.faults, sockets)?);
+        Ok(())
+    }
+
+    fn take(&mut self, out: &mut [u8; 8192]) -> Result<Taken, Failed> {
+        let taken = match &mut self.sockets {
+            Some(sockets) => sockets.wait(self.rt, out),
+            None => Err(not_open()),
+        };
+        counted(self.rt, "netdump server's ports", &mut self.faults, taken)
+    }
+
+    fn open_slot(&mut self, slot: u16) -> Result<(), Failed> {
+        let opened = match &mut self.sockets {
+            Some(sockets) => sockets.open_slot(self.rt, slot),
+            None => Err(not_open()),
+        };
+        counted(self.rt, "netdump server's ports", &mut self.faults, opened)
+    }
+
+    fn answer(&mut self, slot: u16, peer: Peer, bytes: &[u8; 4]) -> Result<(), Failed> {
+        let answered = match &self.sockets {
+            Some(sockets) => sockets.answer(self.rt, slot, peer, bytes),
+            None => Err(not_open()),
+        };
+        counted(self.rt, "netdump client", &mut self.faults, answered)
+    }
+}
