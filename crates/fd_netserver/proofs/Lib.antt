@@ -19,3 +19,4 @@ mod Standing
 mod Steps
 mod Taking
 mod Turns
+mod Unbroken

@@ -71,7 +71,7 @@ fn script(alloc: Global) -> Result<Vec<Input>, AllocError>
         datagram(alloc, 1, VMCORE, 3, 4, b"efgh")?,
         datagram(alloc, 1, KDH, 4, 0, &encode(&header()))?,
         datagram(alloc, 1, VMCORE, 2, 0, b"abcd")?,
-        datagram(alloc, 1, FINISHED, 5, 0, b"")?
+        datagram(alloc, 1, FINISHED, 5, 0, b"")?,
     ]
 }
 
