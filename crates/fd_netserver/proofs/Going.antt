@@ -24,16 +24,9 @@ use Rattle.fd_netserver.specs.declared.reply.Reply.{Reply}
 use Rattle.fd_netserver.specs.declared.reply.Reply.TheVariants.{Opened, Ignored}
 use Rattle.fd_netserver.specs.declared.reply.Skip.TheVariants as skip
 use Rattle.fd_netserver.proofs.Lists.{Each-behind}
-use Rattle.fd_netserver.proofs.More.{sessions_after-append, run_more}
 use Rattle.fd_netserver.proofs.Pacing.{finished_in-append}
-use Rattle.fd_netserver.proofs.Settled.{no_session}
-use Rattle.fd_netserver.proofs.Sound.{AreSound, IsOpen, sound_turn}
-use Rattle.fd_netserver.proofs.Standing.{live_of}
+use Rattle.fd_netserver.proofs.Running.{added_behind, run_behind, run_there, stands_behind}
 use Rattle.fd_netserver.proofs.Unbroken.{rose_before, rose_later, whole_turn}
-
-entries-behind : (ts : List Turn) (t : Turn) → entries_in (ts ++ t ∷ []) ≡ entries_in ts ++ t.entries
-entries-behind [] t = append-nil t.entries
-entries-behind (u ∷ ts) t = ap (λ l. u.entries ++ l) (entries-behind ts t) ∙ sym (append_assoc u.entries (entries_in ts) t.entries)
 
 turns-behind : (hs : List (Option Turn)) (t : Turn) → turns_in (hs ++ Some t ∷ []) ≡ turns_in hs ++ t ∷ []
 turns-behind [] t = refl
@@ -74,18 +67,10 @@ module _ (old mid new : Option Contents) (hs : List (Option Turn)) (t : Turn)
     (run : Told old (λ c. IsServerRun [] (file_of c) (turns_in hs))) (entries : mid ≡ with_entries old (entries_in (turns_in hs)))
     (is : Told mid (λ c. IsTurn (sessions_after [] (turns_in hs)) (file_of c) t)) (adds : new ≡ with_entries mid t.entries) where
   more_run : Told old (λ c. IsServerRun [] (file_of c) (turns_in (hs ++ Some t ∷ [])))
-  more_run c told_c =
-      let es = entries_in (turns_in hs) in
-      let d : Contents = record c { journal = c.journal ++ es } in
-      let told_d : mid ≡ Some d = entries ∙ ap (λ (o : Option Contents). with_entries o es) told_c in
-      subst (λ (ts : List Turn). IsServerRun [] (file_of c) ts) (sym (turns-behind hs t))
-      (run_more [] (file_of c) (turns_in hs) t (run c told_c)
-      (subst (λ (f : Files). IsTurn (sessions_after [] (turns_in hs)) f t) (λ i q. file_after-append q (c.base_file q) c.journal es i) (is d told_d)))
+  more_run = subst (λ (ts : List Turn). Told old (λ c. IsServerRun [] (file_of c) ts)) (sym (turns-behind hs t)) (run_behind old mid new (turns_in hs) t run entries is adds)
 
   more_entries : new ≡ with_entries old (entries_in (turns_in (hs ++ Some t ∷ [])))
-  more_entries =
-      adds ∙ ap (λ (o : Option Contents). with_entries o t.entries) entries ∙ with_entries-append old (entries_in (turns_in hs)) t.entries
-      ∙ ap (with_entries old) (sym (ap entries_in (turns-behind hs t) ∙ entries-behind (turns_in hs) t))
+  more_entries = subst (λ (ts : List Turn). new ≡ with_entries old (entries_in ts)) (sym (turns-behind hs t)) (added_behind old mid new (turns_in hs) t run entries is adds)
 
 -- and whether it was broken off
 unbroken_more : (old mid new : Seen) (rs : List Record) (hs : List (Option Turn)) (t : Turn) → StandsFor rs (sessions_after [] (turns_in hs)) → old.faults ≤ mid.faults → mid.faults ≤ new.faults
@@ -125,8 +110,7 @@ module _ (old mid new : Seen) (seen now : Option (List PortsEvent)) (rs : List R
       unbroken = unbroken_more old mid new rs hs last served.stands served.count count cause served.unbroken;
       events = answered ∙ ap (λ (t : Option (List PortsEvent)). grown t (answers_of input.peer reply)) taken ∙ last_events (answers_of input.peer reply)
           ∙ ap (grown seen) (ap (λ l. events_of hs ++ (input_event input ∷ l)) (sym (append-nil (answers_of input.peer reply))) ∙ sym (events-behind hs (Some last ∷ [])));
-      stands = subst (StandsFor rs1) (sym (ap (sessions_after []) (turns-behind hs last) ∙ sessions_after-append [] (turns_in hs) (last ∷ [])))
-          (stands (sessions_after [] (turns_in hs)) served.stands);
+      stands = subst (λ (ts : List Turn). StandsFor rs1 (sessions_after [] ts)) (sym (turns-behind hs last)) (stands_behind rs1 (turns_in hs) last (stands (sessions_after [] (turns_in hs)) served.stands));
     };
   }
 
@@ -172,32 +156,9 @@ broken_look old new seen now later rs hs served list listed same = record {
 }
 
 -- the files of open sessions are there
-sound_run : (ss : List Session) (files : Files) (ts : List Turn) → AreSound ss files → IsServerRun ss files ts → AreSound (sessions_after ss ts) (files_after files (entries_in ts))
-sound_run ss files [] sound run = sound
-sound_run ss files (t ∷ ts) sound run =
-    subst (AreSound (sessions_after (after_reply ss t.input t.reply) ts)) (λ i q. sym (file_after-append q (files q) t.entries (entries_in ts)) i)
-    (sound_run (after_reply ss t.input t.reply) (files_after files t.entries) ts (sound_turn ss files sound t.input t.reply t.entries run.0) run.1)
-
-there_of : (files : Files) (rs : List Record) (ss : List Session) → StandsFor rs ss → ((k : ℕ) (s : Session) → nth ss k ≡ Some s → s.phase ≡ Open → IsSome (files (vmcore_name s.number))) → AreThere rs files
-there_of files [] ss stands kept = tt
-there_of files (r ∷ rs) [] stands kept = absurd stands
-there_of files (r ∷ rs) (s ∷ ss) stands kept = (
-  (λ open_. subst (λ n. IsSome (files (vmcore_name n))) (sym (live_of r s stands.0 open_).number) (kept 0 s refl (sym stands.0.phase ∙ open_))),
-  there_of files rs ss stands.1 (λ k t is open_. kept (suc k) t is open_),
-)
-
-is_there : (o : Option (List ℕ)) (file : List ℕ) → o ≡ Some file → IsSome o
-is_there None file is = absurd (cc)
-is_there (Some x) file is = refl
-
 pub served_there : (old new : Seen) (seen now : Option (List PortsEvent)) (rs : List Record) (hs : List (Option Turn)) → IsServed old new seen now rs hs → Told new.told (λ c. AreThere rs (file_of c))
-served_there old new seen now rs hs served d is =
-    let ts = turns_in hs in
-    let b = before old.told (entries_in ts) d (sym served.entries ∙ is) in
-    let sound = sound_run [] (file_of b.was) ts (no_session 0 (file_of b.was)) (served.run b.was b.told_was) in
-    there_of (file_of d) rs (sessions_after [] ts) served.stands
-    (λ k s there open_. subst (λ (o : Option (List ℕ)). IsSome o) (sym (b.file (vmcore_name s.number)))
-    (is_there _ _ (sound.kept k s (record { there = there; phase = open_ }))))
+served_there old new seen now rs hs served =
+    run_there new.told rs (record { was = old.told; turns = turns_in hs; run = served.run; entries = served.entries; stands = served.stands })
 
 pub served_new : (old : Seen) (seen : Option (List PortsEvent)) (rs : List Record) → rs ≡ [] → IsServed old old seen seen rs []
 served_new old seen rs none = record {

@@ -13,6 +13,7 @@ pub mod Own
 mod Pacing
 mod Places
 mod Rows
+pub mod Running
 pub mod Settled
 mod Sound
 mod Standing
