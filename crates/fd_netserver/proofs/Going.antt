@@ -1,20 +1,17 @@
 -- Turns, one after another.
-use Rattle.std.proofs.Common.{◌≡◌, inl, inr, ◌⊎◌, ℕ, zero, suc, ◌+◌, ◌<◌, ◌≤◌, List, [], ◌∷◌, ◌++◌, length, Option, Some, None, IsSome, Result, Ok, Err, IfErr, IsErrAnd, OnErr, OnOk, refl, sym, ◌∙◌, ap, subst, append_assoc, arith}
+use Rattle.std.proofs.Common.{◌≡◌, inl, inr, ◌⊎◌, ℕ, ◌≤◌, List, [], ◌∷◌, ◌++◌, Option, Some, None, Result, Ok, Err, IfErr, IsErrAnd, OnErr, OnOk, refl, sym, ◌∙◌, ap, subst, append_assoc, arith}
 use Rattle.std.proofs.lemmas.List.{append-nil}
-use Rattle.fd_info.specs.Name.{vmcore_name}
 use Rattle.fd_netmsg.specs.Message.{ack}
 use Rattle.fd_site.specs.Contents.{Contents, Told, Adds, file_of, with_entries}
 use Rattle.fd_site.specs.Fault.{Rose}
-use Rattle.fd_site.specs.Journal.{Entry}
 use Rattle.fd_site.specs.Seen.{Seen}
 use Rattle.fd_site.specs.Trace.{PortsEvent, NoneTaken, SlotOpened, Answered, grown}
 use Rattle.fd_site.specs.declared.ports.Peer.{Peer}
-use Rattle.fd_site.proofs.Told.{before, file_after-append, grown-append, grown-nil, with_entries-append, with_entries-nil}
-use Rattle.fd_netserver.specs.Files.{Files, files_after}
+use Rattle.fd_site.proofs.Told.{grown-append, grown-nil, with_entries-nil}
 use Rattle.fd_netserver.specs.History.{IsTurn, IsServerRun, NoneBroken, entries_in}
 use Rattle.fd_netserver.specs.Serving.{BreaksInput, BreaksOff, BreaksTurn, EndsBy, GoesOn, TurnsOn, IsGoing, IsServed, IsServedMore, IsServedTo, IsUnbroken, answers_of, events_of, finished_by, finished_in, input_event, turns_in}
-use Rattle.fd_netserver.specs.Session.{Input, Turn, Session, Open, nth, after_reply, sessions_after}
-use Rattle.fd_netserver.specs.Stands.{IsBrokenAt, StandsIn, StandsFor, AreThere, TurnOf}
+use Rattle.fd_netserver.specs.Session.{Input, Turn, Session, after_reply, sessions_after}
+use Rattle.fd_netserver.specs.Stands.{IsBrokenAt, StandsFor, AreThere, TurnOf}
 use Rattle.fd_netserver.specs.declared.limits.Received.{Received}
 use Rattle.fd_netserver.specs.declared.limits.ServeFault.{ServeFault}
 use Rattle.fd_netserver.specs.declared.limits.ServeFault.TheVariants.{TurnsSpent, PortsFault, NoMemory}

@@ -1,12 +1,16 @@
 //! What holds of the histories of servers.
 
-ghost use Rattle.std.specs.Prelude.{◌≡◌, ℕ, List, [], ◌++◌, Option, Some};
+ghost use Rattle.std.specs.Prelude.{◌≡◌, ◌⊎◌, ℕ, List, [], ◌++◌, Option, Some};
 ghost use Rattle.fd_netmsg.specs.Each.{Each};
 ghost use Rattle.fd_netserver.specs.Files.{Files};
 ghost use Rattle.fd_netserver.specs.Session.{Input, Open, Session, Turn, after_reply, session_at, sessions_after};
-ghost use Rattle.fd_netserver.specs.Stands.{AreThere, StandsFor, TurnOf};
+ghost use Rattle.fd_netserver.specs.Stands.{AreThere, IsBrokenAt, StandsFor, TurnOf};
+ghost use Rattle.fd_netserver.specs.Table.{row_of};
 ghost use Rattle.fd_netserver.specs.declared.reply.Reply.{Reply};
-ghost use Rattle.fd_netserver.specs.History.{IsServerRun, IsTurn, on_slot, inputs_of, replies_of, NoneBroken, IsWhole, LeavesFiles};
+ghost use Rattle.fd_netserver.specs.declared.reply.Reply.TheVariants.{Ignored};
+ghost use Rattle.fd_netserver.specs.declared.reply.Skip.TheVariants as skip;
+ghost use Rattle.fd_site.specs.Fault.{Rose};
+ghost use Rattle.fd_netserver.specs.History.{IsDone, IsServerRun, IsTurn, on_slot, inputs_of, replies_of, NoneBroken, IsWhole, LeavesFiles};
 ghost use Rattle.fd_netserver.specs.Running.{HasServed};
 ghost use Rattle.fd_netserver.specs.declared.record.Record.{Record};
 ghost use Rattle.fd_site.specs.Contents.{Adds, Contents, Told, file_of};
@@ -42,4 +46,12 @@ pub fn each_turn_may_be_taken()
         → ((ss : List Session) → StandsFor rs ss → Adds (λ es. Told told (λ c. IsTurn ss (file_of c) (TurnOf input reply es))) told later)
         → ((ss : List Session) → StandsFor rs ss → StandsFor now (after_reply ss input reply))
         → HasServed later now }
+{}
+
+/// A turn of which `Server::take` ensures all that it ensures: the datagram's row was done, or the site's count of faults rose
+/// in the call.
+pub fn without_a_fault_a_turn_is_done()
+    ensures { (was now : ℕ) (rs : List Record) (ss : List Session) (files : Files) (t : Turn)
+        → StandsFor rs ss → IsTurn ss files t → (t.reply ≡ Ignored skip.Broken → Rose was now ⊎ IsBrokenAt rs t.input.slot)
+        → Rose was now ⊎ IsDone (row_of ss files t.input) t }
 {}

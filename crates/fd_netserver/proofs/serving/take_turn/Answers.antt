@@ -1,4 +1,4 @@
-use Rattle.std.proofs.Common.{◌≡◌, [], ◌∷◌, ◌∙◌, refl, ap}
+use Rattle.std.proofs.Common.{[], ◌∷◌, ◌∙◌, ap}
 use Rattle.fd_site.specs.Trace.{grown, taken_event}
 use Rattle.fd_netserver.specs.Serving.{BreaksTurn}
 use Rattle.fd_netserver.specs.declared.limits.ServeFault.TheVariants.{PortsFault}
