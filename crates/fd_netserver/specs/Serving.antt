@@ -72,13 +72,23 @@ pub record IsServed (old new : Seen) (seen now : Option (List PortsEvent)) (rs :
   pub events : now ≡ grown seen (events_of happened)
   pub stands : StandsFor rs (sessions_after [] (turns_in happened))
 
+-- so much of what the ports are asked was done, and not all
+pub record IsDoneInPart (asked given : List PortsEvent) : Type 0 where
+  pub next : PortsEvent
+  pub lacking : List PortsEvent
+  pub is : asked ≡ given ++ next ∷ lacking
+
+pub record IsGrownInPart (was now : Option (List PortsEvent)) (asked : List PortsEvent) : Type 0 where
+  pub given : List PortsEvent
+  pub part : IsDoneInPart asked given
+  pub grows : now ≡ grown was given
+
 -- behind what happened before, one turn more was answered in part, or not at all
 pub record IsUnanswered (before happened : List (Option Turn)) (events : List PortsEvent) : Type 0 where
   pub last : Turn
   pub given : List PortsEvent
-  pub lacking : List PortsEvent
   pub is : happened ≡ before ++ Some last ∷ []
-  pub answers : answers_of last.input.peer last.reply ≡ given ++ lacking
+  pub answers : IsDoneInPart (answers_of last.input.peer last.reply) given
   pub events_are : events ≡ events_of before ++ input_event last.input ∷ given
 
 -- behind what happened before, the ports gave nothing
