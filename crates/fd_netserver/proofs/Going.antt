@@ -9,7 +9,8 @@ use Rattle.fd_site.specs.Trace.{PortsEvent, NoneTaken, SlotOpened, Answered, gro
 use Rattle.fd_site.specs.declared.ports.Peer.{Peer}
 use Rattle.fd_site.proofs.Told.{grown-append, grown-nil, with_entries-nil}
 use Rattle.fd_netserver.specs.History.{IsTurn, IsServerRun, NoneBroken, entries_in}
-use Rattle.fd_netserver.specs.Serving.{BreaksInput, BreaksOff, BreaksTurn, EndsBy, GoesOn, TurnsOn, IsGoing, IsGrownInPart, IsServed, IsServedMore, IsServedTo, IsUnbroken, answers_of, events_of, finished_by, finished_in, input_event, turns_in}
+use Rattle.fd_netserver.specs.Serving.{BreaksOff, EndsBy, IsGoing, IsServedTo, IsUnbroken, answers_of, events_of, finished_by, finished_in, input_event, turns_in}
+use Rattle.fd_netserver.specs.Turning.{BreaksInput, BreaksTurn, GoesOn, TurnsOn, IsGrownInPart, IsServed, IsServedMore}
 use Rattle.fd_netserver.specs.Session.{Input, Turn, Session, after_reply, sessions_after}
 use Rattle.fd_netserver.specs.Stands.{IsBrokenAt, StandsFor, AreThere, TurnOf}
 use Rattle.fd_netserver.specs.declared.limits.Received.{Received}

@@ -1,7 +1,8 @@
 //! The turns of a server.
 
 ghost use Rattle.std.specs.Prelude.{◌≡◌, ◌≤◌, ◌+◌, [], ◌++◌, List, IfErr, IsErrOf, OnErr, OnOk, length};
-ghost use Rattle.fd_netserver.specs.Serving.{BreaksInput, BreaksTurn, EndsBy, EndsDone, GoesOn, IsGrownInPart, IsServedTo, IsServing, TurnsOn, answers_of, finished_by};
+ghost use Rattle.fd_netserver.specs.Serving.{EndsBy, EndsDone, IsServedTo, IsServing, answers_of, finished_by};
+ghost use Rattle.fd_netserver.specs.Turning.{BreaksInput, BreaksTurn, GoesOn, IsGrownInPart, TurnsOn};
 ghost use Rattle.fd_netserver.specs.Stands.{AreThere, dones, finishes};
 ghost use Rattle.fd_netserver.specs.declared.limits.ServeFault.TheVariants as fault;
 ghost use Rattle.fd_site.specs.Contents.{Told, file_of};

@@ -1,5 +1,5 @@
 use Rattle.std.proofs.Common.{refl}
-use Rattle.fd_netserver.specs.Serving.{BreaksInput}
+use Rattle.fd_netserver.specs.Turning.{BreaksInput}
 use Rattle.fd_netserver.specs.declared.limits.ServeFault.TheVariants.{NoMemory, PortsFault}
 use Rattle.fd_netserver.proofs.Going.{breaks_at_answer, breaks_at_reply, goes_on, passed}
 use Rattle.fd_netserver.proofs.serving.take_input.Goals as goal
