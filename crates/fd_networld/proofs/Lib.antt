@@ -1,3 +1,5 @@
+mod Chunks
 mod Cuts
 mod Says
+mod Sending
 mod Served
