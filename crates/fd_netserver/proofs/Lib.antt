@@ -12,10 +12,10 @@ mod Numbers
 pub mod Own
 mod Pacing
 mod Places
-mod Rows
+pub mod Rows
 pub mod Settled
-mod Sound
-mod Standing
+pub mod Sound
+pub mod Standing
 mod Steps
 mod Taking
 mod Turns
