@@ -157,12 +157,6 @@ pub record Shows (story : Story) (w : World) : Type 0 where
   pub runs : w.runs ≡ served_in story
   pub server : StandsFor w.server (sessions_after [] story.run)
 
--- the world of these events
-pub record IsWorldOf (dump : List ℕ) (h : Header) (patience : Patience) (events : List Event) (w : World) : Type 0 where
-  pub story : Story
-  pub follows : Follows dump h (beginning (chunks dump) patience) events story
-  pub shows : Shows story w
-
 -- no datagram of a stranger comes from the client's peer
 abbrev pub IsForeign : Event → Type 0
 IsForeign (Stranger slot peer bytes) = peer ≡ client_peer → ⊥
