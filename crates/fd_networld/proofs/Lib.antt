@@ -6,3 +6,6 @@ mod Running
 mod Says
 mod Sending
 mod Served
+mod Showing
+mod There
+mod Walking

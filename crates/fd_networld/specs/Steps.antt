@@ -43,9 +43,12 @@ pub record HasTaken (input : Input) (was now : World) : Type 0 where
   pub stands : (ss : List Session) → StandsFor was.server ss → StandsFor now.server (after_reply ss input reply)
   pub frame : Frame (seen_of was.site) (seen_of now.site)
   pub cause : reply ≡ Ignored skip.Broken → Rose was.site.calls.faults now.site.calls.faults ⊎ IsBrokenAt was.server input.slot
+  pub fed : now.site.calls.starved ≡ 0
 
--- a story's world after a step is that of the story which the step makes of it
+-- A world is now that of the story which a step makes of a story; and where no call on the site found too little memory,
+-- that is still so.
 pub record IsNow (step : Step) (story : Story) (w : World) : Type 0 where
   pub next : Story
   pub does : Does step story next
   pub shows : Shows next w
+  pub fed : story.site.calls.starved ≡ 0 → next.site.calls.starved ≡ 0

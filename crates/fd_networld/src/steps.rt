@@ -113,7 +113,6 @@ impl World {
     fn take(&mut self, slot: u16, peer: Peer, bytes: Vec<u8>) -> Result<(), AllocError>
         requires there { HasFiles self.old }
         ensures taken { OnOk result (HasTaken (record { slot = slot; peer = peer; bytes = bytes.items }) self.old self.new) }
-        ensures fed { OnOk result (self.new.site.calls.starved ≡ 0) }
     {
         let reply = self.server.take(&mut self.site, slot, peer, &bytes)?;
         if self.site.starved() > 0 {
@@ -125,5 +124,80 @@ impl World {
             bytes,
             reply,
         })
+    }
+
+    // A datagram comes to a slot.
+    fn deliver(&mut self, slot: u16, peer: Peer, bytes: Vec<u8>) -> Result<(), AllocError>
+        requires there { HasFiles self.old }
+        ensures now { (story : Story) → Shows story self.old → OnOk result (IsNow (arriving slot peer (Some bytes.items)) story self.new) }
+    {
+        if slot > 16 {
+            return Ok(());
+        }
+        self.take(slot, peer, bytes)
+    }
+
+    // A datagram that the client sent comes to a slot.
+    fn arrive(&mut self, alloc: Global, slot: u16, nth: u64) -> Result<(), AllocError>
+        requires there { HasFiles self.old }
+        ensures now { (story : Story) → Shows story self.old → OnOk result (IsNow (arriving slot client_peer (slice_get (sent_in story.trace) nth)) story self.new) }
+    {
+        let Some(sent) = self.trace.sent(nth) else {
+            return Ok(());
+        };
+        let bytes = sent.to_vec(alloc)?;
+        self.deliver(slot, CLIENT, bytes)
+    }
+
+    // A datagram of anyone comes to a slot.
+    fn visit(
+        &mut self,
+        alloc: Global,
+        slot: u16,
+        peer: Peer,
+        bytes: &Bytes,
+    ) -> Result<(), AllocError>
+        requires there { HasFiles self.old }
+        ensures now { (story : Story) → Shows story self.old → OnOk result (IsNow (arriving slot peer (Some bytes.now)) story self.new) }
+    {
+        let copy = bytes.as_slice().to_vec(alloc)?;
+        self.deliver(slot, peer, copy)
+    }
+
+    // The server is started anew.
+    fn restart(&mut self, alloc: Global) -> Result<(), AllocError>
+        ensures now { (story : Story) → Shows story self.old → OnOk result (IsNow Begins story self.new) }
+    {
+        self.runs.begin()?;
+        self.server = Server::new(alloc);
+        Ok(())
+    }
+
+    /// One event.
+    pub(crate) fn step(
+        &mut self,
+        alloc: Global,
+        dump: &[u8],
+        header: &Header,
+        event: &Event,
+    ) -> Result<(), AllocError>
+        requires dump { IsChunked dump.now }
+        requires header { FitsFields header.now }
+        requires there { HasFiles self.old }
+        ensures now { (story : Story) → Shows story self.old → OnOk result (IsNow (step_of dump.now header.now story event.now) story self.new) }
+    {
+        match event {
+            Event::Send => self.send(alloc, dump, header),
+            Event::ToServer { slot, nth } => self.arrive(alloc, *slot, *nth),
+            Event::ToClient { nth } => self.hear(alloc, *nth),
+            Event::Stranger { slot, peer, bytes } => self.visit(alloc, *slot, *peer, bytes),
+            Event::ClientSilent => self.hear_nothing(),
+            Event::ServerSilent => Ok(()),
+            Event::SiteFails => {
+                self.site.fail_next();
+                Ok(())
+            }
+            Event::Restart => self.restart(alloc),
+        }
     }
 }
