@@ -109,6 +109,20 @@ impl Runs {
         }
     }
 
+    /// What the servers before the running one took and answered, in order.
+    pub fn earlier(&self) -> &[Run]
+        ensures { result.now ≡ self.now.earlier }
+    {
+        &self.earlier
+    }
+
+    /// What the running server took and answered.
+    pub fn run(&self) -> &Run
+        ensures { result.now ≡ self.now.run }
+    {
+        &self.run
+    }
+
     /// Notes what the running server took and answered.
     pub(crate) fn note(&mut self, it: Exchange) -> Result<(), AllocError>
         ensures ok { OnOk result (self.new ≡ record self.old { run = self.old.run ++ exchange it ∷ [] }) }

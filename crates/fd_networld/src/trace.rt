@@ -1,7 +1,7 @@
 //! What the client of a world did.
 
 ghost use Rattle.std.specs.Prelude.{◌≡◌, ◌++◌, ◌∷◌, [], OnOk, OnErr, MatchOption, None, Some, slice_get};
-ghost use Rattle.fd_fake.specs.MemLink.{event};
+ghost use Rattle.fd_fake.specs.MemLink.{event, events};
 ghost use Rattle.fd_networld.specs.Sent.{sent_in};
 
 use fd_fake::LinkEvent;
@@ -32,6 +32,13 @@ impl Trace {
         Trace {
             items: Vec::new(alloc),
         }
+    }
+
+    /// What was done, in order.
+    pub fn events(&self) -> &[LinkEvent]
+        ensures { events result.now ≡ self.now }
+    {
+        &self.items
     }
 
     /// Notes an event.
