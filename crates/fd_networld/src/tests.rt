@@ -8,6 +8,7 @@ ghost use Rattle.fd_networld.specs.World.{AreForeign, IsForeign};
 
 use crate::{Bytes, Event, World, walk_world};
 use fd_bytes::{Arch, Label};
+use fd_info::{info_name, vmcore_name};
 use fd_kdh::Header;
 use fd_netclient::{Limits, Want};
 use fd_netmsg::{FINISHED, HERALD, VMCORE, put_message};
@@ -229,5 +230,77 @@ fn a_strangers_session_is_broken_and_the_clients_goes_on(rt: HostRuntime) -> Res
     assert_eq!(rt; exchanges.len(), 7);
     assert_eq!(rt; exchanges[3].reply, Reply::Ignored(Skip::Broken));
     assert_eq!(rt; exchanges[6].reply, Reply::Ignored(Skip::Broken));
+    Ok(())
+}
+
+// A number that follows another one, as if by chance.
+fn next_number(number: u32) -> u32 {
+    number.wrapping_mul(1_664_525).wrapping_add(1_013_904_223)
+}
+
+// The event of a number: the client sends and hears often, and the site fails and the server is started anew now and then.
+fn any_event(alloc: Global, number: u32) -> Result<Event, AllocError>
+    ensures { IfOk result IsForeign }
+{
+    let nth = u64::from((number >> 16) % 8);
+    let slot = if nth == 0 { 0 } else { 1 };
+    match number >> 24 {
+        0..=60 => Ok(Event::Send),
+        61..=140 => Ok(Event::ToServer { slot, nth }),
+        141..=240 => Ok(Event::ToClient { nth }),
+        241..=244 => Ok(Event::ClientSilent),
+        245..=247 => Ok(Event::ToServer { slot: 2, nth }),
+        248 => stranger(alloc, 0, HERALD, 0, b""),
+        249..=251 => stranger(alloc, 1, VMCORE, 0, b"y"),
+        252 => Ok(Event::SiteFails),
+        253 => Ok(Event::Restart),
+        _ => Ok(Event::ServerSilent),
+    }
+}
+
+fn any_events(alloc: Global, seed: u32) -> Result<Vec<Event>, AllocError>
+    ensures { IfOk result (λ events. AreForeign events.items) }
+{
+    let mut events = Vec::new(alloc);
+    let mut number = seed;
+    for _ in 0..200 {
+        number = next_number(number);
+        events.push(any_event(alloc, number)?)?;
+    }
+    Ok(events)
+}
+
+// Whether a file holds a dump of one page, beside its text.
+fn has_dump<S: Site>(site: &mut S) -> Result<bool, Failed> {
+    for number in 0..16 {
+        let core = site.file_len(vmcore_name(number).as_str())?;
+        if core == Some(4096) && site.file_len(info_name(number).as_str())?.is_some() {
+            return Ok(true);
+        }
+    }
+    Ok(false)
+}
+
+// Whether the client of a world of any events is done, whose dump is then there.
+fn is_done(rt: &impl Abort, alloc: Global, seed: u32) -> Result<bool, Fail> {
+    let events = any_events(alloc, seed)?;
+    let mut world = walk(alloc, 1, 20, &events)?;
+    let done = world.client.want() == Want::Done;
+    if done {
+        assert!(rt; has_dump(&mut world.site)?);
+    }
+    Ok(done)
+}
+
+#[test]
+fn whatever_happens_a_done_clients_dump_is_there(rt: HostRuntime) -> Result<(), Fail> {
+    let mut done = 0u32;
+    for seed in 0..64 {
+        if is_done(&rt, rt.alloc(), seed)? {
+            done = done.saturating_add(1);
+        }
+    }
+    assert!(rt; done > 0);
+    assert!(rt; done < 64);
     Ok(())
 }
