@@ -1,32 +1,31 @@
 -- Every world of events is lawful: step by step.
-use Rattle.std.proofs.Common.{◌≡◌, inl, inr, ℕ, ◌≤◌, Bool, true, false, cond, nat_le, List, [], ◌∷◌, ◌++◌, Option, Some, None, slice_get, refl, sym, ◌∙◌, ap, subst}
+use Rattle.std.proofs.Common.{◌≡◌, ℕ, ◌≤◌, nat_le, List, [], ◌∷◌, ◌++◌, Option, Some, None, slice_get, refl, sym, ◌∙◌, ap, subst}
 use Rattle.std.proofs.lemmas.Bool.{cond_both}
 use Rattle.std.proofs.lemmas.List.{append-nil}
 use Rattle.fd_fake.specs.Directory.{file_in}
 use Rattle.fd_fake.specs.Disk.{contents_of}
 use Rattle.fd_kdh.specs.declared.header.Header.{Header}
 use Rattle.fd_netclient.specs.Datagram.{chunks, datagram}
-use Rattle.fd_netclient.specs.Machine.{ComesNext, Passes, Standing, State, on_poll, on_sent, port_of, start, want_of}
-use Rattle.fd_netclient.specs.Trace.{Patience, IsComplete, IsPolled, Done}
+use Rattle.fd_netclient.specs.Machine.{ComesNext, Passes, port_of, start, want_of}
+use Rattle.fd_netclient.specs.Trace.{Patience, IsComplete, Done}
 use Rattle.fd_netclient.specs.declared.client.Want.{Want}
 use Rattle.fd_netclient.specs.declared.client.Want.TheVariants as want
 use Rattle.fd_netclient.proofs.Runs.{runs_are_passes}
 use Rattle.fd_netclient.proofs.Wants.{polled_step, sent_step, wants_next}
-use Rattle.fd_netmsg.specs.Each.{Each, OneOf}
+use Rattle.fd_netmsg.specs.Each.{OneOf}
 use Rattle.fd_netmsg.specs.Message.{ack}
 use Rattle.fd_netserver.specs.Files.{Files}
 use Rattle.fd_netserver.specs.History.{AreServerRuns, IsTurn, all_turns, entries_in}
 use Rattle.fd_netserver.specs.Session.{Input, Turn, same_peer, sessions_after}
 use Rattle.fd_netserver.proofs.Rows.{same_peer-true}
 use Rattle.fd_netserver.proofs.Settled.{entries_in-append}
-use Rattle.fd_site.specs.Contents.{Contents, file_of, with_entries}
-use Rattle.fd_site.specs.Journal.{Entry}
-use Rattle.fd_site.specs.Trace.{LinkEvent, Opening, Sent, Got, Silent}
+use Rattle.fd_site.specs.Contents.{Contents, file_of}
+use Rattle.fd_site.specs.Trace.{LinkEvent, Sent, Got, Silent}
 use Rattle.fd_site.specs.declared.ports.Peer.{Peer}
-use Rattle.fd_networld.specs.Delivery.{IsCarried, IsDelivered, IsSendable, IsSending, IsAnswer, WasAnswered}
+use Rattle.fd_networld.specs.Delivery.{IsCarried, IsSendable, IsSending, WasAnswered}
 use Rattle.fd_networld.specs.Lawful.{IsLawful, IsServed, contents_with}
-use Rattle.fd_networld.specs.Sent.{all_answers, answers_in, client_peer, port_of_slot, sent_in}
-use Rattle.fd_networld.specs.World.{AreForeign, Does, Follows, IsForeign, IsTaken, Step, Stays, Goes, Takes, WillFail, Begins, Story, answering, arriving, beginning, client_after, exchanges_of, hearing, runs_of, sending, served_in, state_after, step_of}
+use Rattle.fd_networld.specs.Sent.{all_answers, client_peer, port_of_slot, sent_in}
+use Rattle.fd_networld.specs.World.{AreForeign, Does, Follows, IsForeign, IsTaken, Stays, Takes, WillFail, Begins, Story, answering, arriving, beginning, client_after, hearing, runs_of, sending, served_in, state_after, step_of}
 use Rattle.fd_networld.specs.declared.answer.Answer.{Answer}
 use Rattle.fd_networld.specs.declared.event.Event.{Event}
 use Rattle.fd_networld.specs.declared.event.Event.TheVariants.{Send, ToServer, ToClient, Stranger, ClientSilent, ServerSilent, SiteFails, Restart}

@@ -1,5 +1,5 @@
 -- The runs of servers over one site go on by a turn, and by a new server.
-use Rattle.std.proofs.Common.{◌≡◌, ℕ, List, [], ◌∷◌, ◌++◌, refl, sym, ◌∙◌, ap, subst, append_assoc}
+use Rattle.std.proofs.Common.{◌≡◌, List, [], ◌∷◌, ◌++◌, refl, sym, ◌∙◌, ap, subst, append_assoc}
 use Rattle.std.proofs.lemmas.List.{append-nil}
 use Rattle.fd_netserver.specs.Files.{Files, files_after}
 use Rattle.fd_netserver.specs.History.{AreServerRuns, IsServerRun, IsTurn, all_turns, entries_in}

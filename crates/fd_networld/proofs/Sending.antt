@@ -1,8 +1,8 @@
 -- What was sent, in the lists that the code keeps.
 use Rattle.std.proofs.Common.{◌≡◌, List, [], ◌∷◌, ◌++◌, Option, sym, ◌∙◌, ap, append_assoc}
-use Rattle.std.specs.List.{cons_option, filter_map, flat_map}
+use Rattle.std.specs.List.{cons_option, flat_map}
 use Rattle.std.proofs.lemmas.List.Elements.{filter_map-append}
-use Rattle.fd_networld.specs.Sent.{Exchange, Served, all_answers, answer_to, answers_in}
+use Rattle.fd_networld.specs.Sent.{Exchange, all_answers, answer_to, answers_in}
 use Rattle.fd_networld.specs.declared.answer.Answer.{Answer}
 
 -- an exchange more, and its answer

@@ -1,5 +1,5 @@
 -- The world that the code has is that of a story, call by call.
-use Rattle.std.proofs.Common.{◌≡◌, ◌⊎◌, inl, inr, ℕ, zero, suc, ◌-◌, ◌<◌, ◌≤◌, Bool, true, false, cond, nat_le, List, [], ◌∷◌, ◌++◌, map, Option, Some, None, IsSome, IfSome, slice_get, Result, Ok, Err, OnOk, refl, sym, ◌∙◌, ap, subst, arith}
+use Rattle.std.proofs.Common.{◌≡◌, ◌⊎◌, inl, inr, ℕ, zero, suc, ◌-◌, ◌<◌, ◌≤◌, true, false, nat_le, List, [], ◌∷◌, ◌++◌, map, Option, Some, None, IsSome, IfSome, slice_get, Result, Ok, Err, OnOk, refl, sym, ◌∙◌, ap, subst, arith}
 use Rattle.std.proofs.lemmas.Bool.{cond_both}
 use Rattle.std.proofs.lemmas.Bool.Decides.{nat_tests}
 use Rattle.std.proofs.lemmas.List.{map-append}
@@ -11,8 +11,8 @@ use Rattle.fd_netclient.specs.declared.client.Want.{Want}
 use Rattle.fd_netclient.specs.declared.client.Want.TheVariants as want
 use Rattle.fd_netmsg.specs.Message.{ack}
 use Rattle.fd_netserver.specs.History.{IsTurn}
-use Rattle.fd_netserver.specs.Session.{Input, Session, Turn, after_reply, nth, same_peer, sessions_after}
-use Rattle.fd_netserver.specs.Stands.{IsBrokenAt, StandsFor, TurnOf}
+use Rattle.fd_netserver.specs.Session.{Input, Session, Turn, nth, same_peer, sessions_after}
+use Rattle.fd_netserver.specs.Stands.{StandsFor, TurnOf}
 use Rattle.fd_netserver.specs.declared.phase.Phase.TheVariants.{Broken}
 use Rattle.fd_netserver.specs.declared.record.Record.{Record}
 use Rattle.fd_netserver.specs.declared.reply.Reply.TheVariants.{Ignored}
@@ -20,12 +20,12 @@ use Rattle.fd_netserver.specs.declared.reply.Skip.TheVariants as skip
 use Rattle.fd_netserver.proofs.More.{sessions_after-append}
 use Rattle.fd_site.specs.Contents.{Adds, Told, file_of, with_entries}
 use Rattle.fd_site.specs.Fault.{Rose}
-use Rattle.fd_site.specs.Seen.{Frame, Seen}
+use Rattle.fd_site.specs.Seen.{Frame}
 use Rattle.fd_site.specs.Trace.{LinkEvent, Got}
 use Rattle.fd_site.specs.declared.ports.Peer.{Peer}
 use Rattle.fd_networld.specs.Sent.{Exchange, Served, all_answers, client_peer, port_of_slot}
 use Rattle.fd_networld.specs.Steps.{HasTaken, IsNow, gone}
-use Rattle.fd_networld.specs.World.{Does, IsTaken, Shows, Step, Stays, Goes, Takes, WillFail, Begins, Story, WasBroken, answering, arriving, client_after, exchange_of, exchanges_of, failing, hearing, sending, served_in}
+use Rattle.fd_networld.specs.World.{Shows, Stays, Goes, Takes, WillFail, Begins, Story, WasBroken, answering, arriving, client_after, exchange_of, exchanges_of, failing, hearing, sending, served_in}
 use Rattle.fd_networld.specs.declared.answer.Answer.{Answer}
 use Rattle.fd_networld.specs.declared.world.World.{World}
 

@@ -1,5 +1,5 @@
 -- The file of each open session is there, in every world.
-use Rattle.std.proofs.Common.{◌≡◌, ℕ, zero, suc, List, [], ◌∷◌, ◌++◌, Option, Some, None, IsSome, refl, sym, ◌∙◌, ap, subst}
+use Rattle.std.proofs.Common.{◌≡◌, ℕ, suc, List, [], ◌∷◌, Option, Some, None, IsSome, refl, sym, ◌∙◌, ap, subst}
 use Rattle.fd_fake.specs.Directory.{file_in}
 use Rattle.fd_fake.specs.Disk.{contents_of, file_now}
 use Rattle.fd_fake.specs.MemSite.{SiteInMemory}

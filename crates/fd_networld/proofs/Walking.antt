@@ -1,5 +1,5 @@
 -- The world of events is walked event by event.
-use Rattle.std.proofs.Common.{◌≡◌, ℕ, zero, suc, ◌+◌, ◌<◌, ◌≤◌, ◌^◌, List, [], ◌∷◌, ◌++◌, length, get_or, take, refl, sym, ◌∙◌, ap, subst, arith}
+use Rattle.std.proofs.Common.{◌≡◌, ℕ, zero, suc, ◌<◌, ◌≤◌, ◌^◌, List, [], ◌∷◌, ◌++◌, length, get_or, refl, subst, arith}
 use Rattle.fd_kdh.specs.Header.{IsWithinFields}
 use Rattle.fd_kdh.specs.declared.header.Header.{Header}
 use Rattle.fd_netclient.specs.Datagram.{chunks}

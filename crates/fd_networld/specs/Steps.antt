@@ -1,6 +1,6 @@
 -- What the calls of a world do.
 use Rattle.std.specs.Prelude.{◌≡◌, ◌⊎◌, ℕ, ◌≤◌, ◌%◌, ◌^◌, List, [], ◌∷◌, ◌++◌, length}
-use Rattle.fd_fake.specs.Disk.{contents_of, file_now}
+use Rattle.fd_fake.specs.Disk.{file_now}
 use Rattle.fd_fake.specs.MemSite.{seen_of}
 use Rattle.fd_netserver.specs.History.{IsTurn}
 use Rattle.fd_netserver.specs.Session.{Input, Session, after_reply}

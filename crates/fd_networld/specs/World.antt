@@ -1,10 +1,10 @@
 -- A world of events: one client, servers over one site, one after another, and a network that delivers what it is told to.
-use Rattle.std.specs.Prelude.{◌≡◌, ◌⊎◌, ℕ, nat_le, true, false, List, [], ◌∷◌, ◌++◌, map, slice_get, if◌then◌else◌, Option, Some, None}
+use Rattle.std.specs.Prelude.{◌≡◌, ◌⊎◌, ℕ, nat_le, true, List, [], ◌∷◌, ◌++◌, map, slice_get, if◌then◌else◌, Option, Some, None}
 use Rattle.fd_fake.specs.Calls.{no_calls}
 use Rattle.fd_fake.specs.Disk.{contents_of}
 use Rattle.fd_fake.specs.MemSite.{SiteInMemory, seen_of}
 use Rattle.fd_kdh.specs.declared.header.Header.{Header}
-use Rattle.fd_netclient.specs.Datagram.{chunks, datagram}
+use Rattle.fd_netclient.specs.Datagram.{datagram}
 use Rattle.fd_netclient.specs.Machine.{Standing, State, on_poll, on_sent, port_of, start, want_of}
 use Rattle.fd_netclient.specs.Trace.{Patience}
 use Rattle.fd_netclient.specs.declared.client.Want.{Want}

@@ -89,9 +89,9 @@ fn answer_to(peer: Peer, reply: Reply) -> Option<Answer>
     ensures { result ≡ answer_to peer reply }
 {
     match reply {
-        Reply::Opened { slot, seqno, .. } | Reply::Ack { slot, seqno } | Reply::Finished { seqno, slot, .. } => {
-            Some(Answer { peer, slot, seqno })
-        }
+        Reply::Opened { slot, seqno, .. }
+        | Reply::Ack { slot, seqno }
+        | Reply::Finished { seqno, slot, .. } => { Some(Answer { peer, slot, seqno }) }
         Reply::Ignored(_) => None,
     }
 }
