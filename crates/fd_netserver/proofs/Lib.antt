@@ -12,11 +12,11 @@ mod Numbers
 pub mod Own
 mod Pacing
 mod Places
-mod Rows
 pub mod Running
+pub mod Rows
 pub mod Settled
-mod Sound
-mod Standing
+pub mod Sound
+pub mod Standing
 mod Steps
 mod Taking
 mod Turns

@@ -1,3 +1,11 @@
+mod Carrying
+mod Chunks
 mod Cuts
+mod Lawful
+mod Running
 mod Says
+mod Sending
 mod Served
+mod Showing
+mod There
+mod Walking
