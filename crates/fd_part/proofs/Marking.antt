@@ -1,5 +1,5 @@
 -- Marking a header after a look at the trailing sector, and a dump behind that.
-use Rattle.std.proofs.Common.{◌≡◌, ℕ, ◌-◌, ◌%◌, Bool, true, false, if◌then◌else◌, List, [], ◌∷◌, ◌++◌, length, Option, Some, arith, refl, sym, ◌∙◌, ap, subst}
+use Rattle.std.proofs.Common.{◌≡◌, ℕ, ◌-◌, ◌%◌, Bool, true, false, if◌then◌else◌, List, [], ◌∷◌, ◌++◌, length, Option, Some, Result, Ok, Err, IsErrOf, arith, refl, sym, ◌∙◌, ap, subst}
 use Rattle.std.proofs.lemmas.List.{append-nil}
 use Rattle.fd_site.specs.Begun.{IsBegun}
 use Rattle.fd_site.specs.Contents.{Adds, Contents, Told, part_of, whole_part, with_entries}
@@ -118,3 +118,11 @@ begun_marking old new body h block pages adds =
 pub all_written : {P : Type 0} (wrote : Wrote) → IfWhole wrote P → IfStopped wrote ⊥ → P
 all_written Whole all none = all
 all_written Stopped all none = absurd none
+
+-- the same error of another call
+pub same_err : {T U E : Type 0} (e f : E) → IsErrOf {T = T} {E = E} (Err e) f → IsErrOf {T = U} {E = E} (Err e) f
+same_err {T} {U} {E} e f is = ap (λ x. Err x) (ap error is)
+  where
+    error : Result T E → E
+    error (Ok x) = e
+    error (Err x) = x
