@@ -75,13 +75,14 @@ module _ (part body : List ℕ) (h : Header) (block : ℕ) (good : IsTrue (is_go
       elim (sector-torn part place new q torn fits) [
         | inl is ↦ inr (
           (λ live. cleared_not_live old (ap (λ (l : List ℕ). take 20 l) (sym (trailing_is q same ∙ is ∙ take_512)) ∙ live)),
-          same)
+          same,
+        )
         | inr is ↦ inl (
-          parts q place
-          ∙ ap (λ (l : List ℕ). l ++ (take 512 (drop place q) ++ drop 512 (drop place q))) (take-torn part place new q torn fits)
-          ∙ ap (λ (l : List ℕ). take place part ++ (l ++ drop 512 (drop place q))) is
-          ∙ ap (λ (l : List ℕ). take place part ++ (take 512 (drop place part) ++ l)) (behind q torn fits)
-          ∙ sym (parts part place))
+            parts q place
+            ∙ ap (λ (l : List ℕ). l ++ (take 512 (drop place q) ++ drop 512 (drop place q))) (take-torn part place new q torn fits)
+            ∙ ap (λ (l : List ℕ). take place part ++ (l ++ drop 512 (drop place q))) is
+            ∙ ap (λ (l : List ℕ). take place part ++ (take 512 (drop place part) ++ l)) (behind q torn fits)
+            ∙ sym (parts part place))
       ]
     where
       take_512 : take 512 new ≡ new
@@ -120,8 +121,8 @@ module _ (part body : List ℕ) (h : Header) (block : ℕ) (good : IsTrue (is_go
       elim (first_write part e es place new (all_kept new) dump k these (omega (arith, length-new)) begun) [
         | inl torn ↦ by_torn (part_cut part (e ∷ es) k these) (torn_is (part_cut part (e ∷ es) k these) torn)
         | inr on ↦ inr (subst (IsRefusedOrThis body h block) (sym on.2)
-          (refused_or_this now body h block es on.0 these (subst (λ n. IsTrue (is_good n block)) (sym length-now) good) (omega (arith, room, length-now)) now_clear header
-          (record { planned = dump; is_dump = subst (λ n. IsDumpJournal body h n block dump) (sym length-now) is_dump; begun = on.1 })))
+            (refused_or_this now body h block es on.0 these (subst (λ n. IsTrue (is_good n block)) (sym length-now) good) (omega (arith, room, length-now)) now_clear header
+            (record { planned = dump; is_dump = subst (λ n. IsDumpJournal body h n block dump) (sym length-now) is_dump; begun = on.1 })))
       ]
 
   -- each cut of what was begun

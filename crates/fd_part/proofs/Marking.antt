@@ -21,7 +21,7 @@ marking_by : (part : List ℕ) (size block place : ℕ) (sector : List ℕ) → 
     → marking part block ≡ (if is_live_sector sector then clearing size block sector else [])
 marking_by part size block place sector sized placed read =
     let same : trailing_sector part block ≡ sector =
-        ap (λ n. sector_at part (n - block)) sized ∙ ap (sector_at part) (sym placed) ∙ sym read in
+    ap (λ n. sector_at part (n - block)) sized ∙ ap (sector_at part) (sym placed) ∙ sym read in
     ap (λ (l : List ℕ). if is_live_sector l then clearing (length part) block l else []) same
     ∙ ap (λ n. if is_live_sector sector then clearing n block sector else []) sized
 
@@ -41,18 +41,20 @@ module _ (old mid : Seen) (n b : ℕ) (sector : List ℕ) (is_size : n ≡ old.s
   -- clearing it failed
   pub begun_live : (new : Option Contents) → is_live_sector sector ≡ true → Adds (IsBegun (clearing mid.size mid.block sector)) mid.told new
       → Adds (λ es. Told old.told (λ c. IsBegun (marking (part_of c) old.block) es)) old.told new
-  begun_live new live adds =
-      (adds.0,
-      (λ c is. subst (λ (ps : List Entry). IsBegun ps adds.0) (clearing_there ∙ sym (by_sector c is true live)) adds.1),
-      adds.2 ∙ ap (λ t. with_entries t adds.0) same.told)
+  begun_live new live adds = (
+    adds.0,
+    (λ c is. subst (λ (ps : List Entry). IsBegun ps adds.0) (clearing_there ∙ sym (by_sector c is true live)) adds.1),
+    adds.2 ∙ ap (λ t. with_entries t adds.0) same.told,
+  )
 
   -- it was cleared
   pub done_live : (new : Option Contents) → is_live_sector sector ≡ true → new ≡ with_entries mid.told (clearing mid.size mid.block sector)
       → Adds (λ es. Told old.told (λ c. es ≡ marking (part_of c) old.block)) old.told new
-  done_live new live told =
-      (clearing mid.size mid.block sector,
-      (λ c is. clearing_there ∙ sym (by_sector c is true live)),
-      told ∙ ap (λ t. with_entries t (clearing mid.size mid.block sector)) same.told)
+  done_live new live told = (
+    clearing mid.size mid.block sector,
+    (λ c is. clearing_there ∙ sym (by_sector c is true live)),
+    told ∙ ap (λ t. with_entries t (clearing mid.size mid.block sector)) same.told,
+  )
 
   -- there is nothing to clear
   pub done_clear : is_live_sector sector ≡ false → Adds (λ es. Told old.told (λ c. es ≡ marking (part_of c) old.block)) old.told mid.told
@@ -65,10 +67,11 @@ begun_nothing old block new same = ([], (λ c is. tt), same ∙ with_entries-nil
 
 -- a dump in one piece
 one_piece : (body : List ℕ) (h : Header) (size block : ℕ) → length body % 512 ≡ 0 → (journal : List Entry) × IsDumpJournal body h size block journal
-one_piece body h size block whole =
-    (writes_from (dump_place size block (length body)) (body ∷ [])
-    ++ whole_part (leading_place size block (length body)) (header_block h block) ∷ whole_part (trailing_place size block) (header_block h block) ∷ [],
-    record { pieces = body ∷ []; sectors = (whole, tt); joined = append-nil body; is = refl })
+one_piece body h size block whole = (
+  writes_from (dump_place size block (length body)) (body ∷ [])
+      ++ whole_part (leading_place size block (length body)) (header_block h block) ∷ whole_part (trailing_place size block) (header_block h block) ∷ [],
+  record { pieces = body ∷ []; sectors = (whole, tt); joined = append-nil body; is = refl },
+)
 
 -- a dump behind the marking
 module _ (old mid : Seen) (new : Option Contents) (body : List ℕ) (h : Header) (sized : Told old.told (λ c. length (part_of c) ≡ old.size)) (frame : Frame old mid) where
@@ -80,39 +83,42 @@ module _ (old mid : Seen) (new : Option Contents) (body : List ℕ) (h : Header)
   pub whole_behind : Adds (λ es. Told old.told (λ c. es ≡ marking (part_of c) old.block)) old.told mid.told
       → Adds (IsDumpJournal body h mid.size mid.block) mid.told new
       → Adds (λ es. Told old.told (λ c. IsMarkedJournal (part_of c) body h old.block es)) old.told new
-  whole_behind marked dump =
-      (marked.0 ++ dump.0,
-      (λ c is. record { dump = dump.0; is_dump = journal_there c is dump.0 dump.1; is = ap (λ (l : List Entry). l ++ dump.0) (marked.1 c is) }),
-      dump.2 ∙ ap (λ t. with_entries t dump.0) marked.2 ∙ with_entries-append old.told marked.0 dump.0)
+  whole_behind marked dump = (
+    marked.0 ++ dump.0,
+    (λ c is. record { dump = dump.0; is_dump = journal_there c is dump.0 dump.1; is = ap (λ (l : List Entry). l ++ dump.0) (marked.1 c is) }),
+    dump.2 ∙ ap (λ t. with_entries t dump.0) marked.2 ∙ with_entries-append old.told marked.0 dump.0,
+  )
 
   pub begun_behind : Adds (λ es. Told old.told (λ c. es ≡ marking (part_of c) old.block)) old.told mid.told
       → Adds (IsBegunDump body h mid.size mid.block) mid.told new
       → Adds (λ es. Told old.told (λ c. IsBegunMarked (part_of c) body h old.block es)) old.told new
-  begun_behind marked dump =
-      (marked.0 ++ dump.0,
-      (λ c is. record {
-        planned = marking (part_of c) old.block ++ dump.1.planned;
-        is_marked = record { dump = dump.1.planned; is_dump = journal_there c is dump.1.planned dump.1.is_dump; is = refl };
-        begun =
-            subst (λ (l : List Entry). IsBegun (marking (part_of c) old.block ++ dump.1.planned) (l ++ dump.0)) (sym (marked.1 c is))
-            (IsBegun-behind (marking (part_of c) old.block) dump.1.planned dump.0 dump.1.begun);
-      }),
-      dump.2 ∙ ap (λ t. with_entries t dump.0) marked.2 ∙ with_entries-append old.told marked.0 dump.0)
+  begun_behind marked dump = (
+    marked.0 ++ dump.0,
+    (λ c is. record {
+      planned = marking (part_of c) old.block ++ dump.1.planned;
+      is_marked = record { dump = dump.1.planned; is_dump = journal_there c is dump.1.planned dump.1.is_dump; is = refl };
+      begun =
+          subst (λ (l : List Entry). IsBegun (marking (part_of c) old.block ++ dump.1.planned) (l ++ dump.0)) (sym (marked.1 c is))
+          (IsBegun-behind (marking (part_of c) old.block) dump.1.planned dump.0 dump.1.begun);
+    }),
+    dump.2 ∙ ap (λ t. with_entries t dump.0) marked.2 ∙ with_entries-append old.told marked.0 dump.0,
+  )
 
 -- the marking alone was begun
 pub begun_marking : (old new : Option Contents) (body : List ℕ) (h : Header) (block : ℕ) → length body % 4096 ≡ 0
     → Adds (λ es. Told old (λ c. IsBegun (marking (part_of c) block) es)) old new
     → Adds (λ es. Told old (λ c. IsBegunMarked (part_of c) body h block es)) old new
-begun_marking old new body h block pages adds =
-    (adds.0,
-    (λ c is.
+begun_marking old new body h block pages adds = (
+  adds.0,
+  (λ c is.
       let dump = one_piece body h (length (part_of c)) block (omega (arith, pages)) in
       record {
         planned = marking (part_of c) block ++ dump.0;
         is_marked = record { dump = dump.0; is_dump = dump.1; is = refl };
         begun = IsBegun-within (marking (part_of c) block) dump.0 adds.0 (adds.1 c is);
       }),
-    adds.2)
+  adds.2,
+)
 
 -- without a stop all was written
 pub all_written : {P : Type 0} (wrote : Wrote) → IfWhole wrote P → IfStopped wrote ⊥ → P
