@@ -123,7 +123,7 @@ impl Image {
     pub fn page(&self, pa: u64) -> Option<&[u8]>
         ensures { option_copied result ≡ page_of self.now pa }
     {
-        match self.segment_of(pa) {
+        match self.segment_of(pa, &mut 0) {
             Some(seg) => Some(page_in(seg, pa)),
             None => None,
         }
@@ -135,18 +135,18 @@ impl Image {
     pub fn pages(&self, pa: u64, most: u64) -> &[u8]
         ensures { result.now ≡ pages_from self.now pa most }
     {
-        match self.segment_of(pa) {
+        match self.segment_of(pa, &mut 0) {
             Some(seg) => pages_in(seg, pa, most),
             None => &[],
         }
     }
 
-    fn segment_of(&self, pa: u64) -> Option<&Seg>
+    fn segment_of(&self, pa: u64, near: &mut usize) -> Option<&Seg>
         ensures value { option_copied result ≡ segment_of self.now pa }
         ensures within { IfSome result (λ seg. IsTrue (has_address pa seg.now)) }
         ensures whole { IfSome result (λ seg. IsTrue (is_whole_pages seg.now)) }
     {
-        find_segment(self.segs(), pa)
+        find_segment(self.segs(), pa, near)
     }
 }
 
@@ -156,19 +156,33 @@ impl Memory for Image {
     ghost word_at = { word_of };
 
     #[tactic(auto, unfolding(crate::specs::Physical::word_of))]
-    fn word(&self, pa: u64) -> Option<u64> {
+    fn word_near(&self, pa: u64, near: &mut usize) -> Option<u64> {
         if pa % 8 != 0 {
             return None;
         }
-        match self.segment_of(pa) {
+        match self.segment_of(pa, near) {
             Some(seg) => Some(word_in(seg, pa)),
             None => None,
         }
     }
 }
 
-// The segment in which an address lies, by binary search.
-fn find_segment(segs: &[Seg], pa: u64) -> Option<&Seg>
+// The segment in which an address lies: the one of the index `near`, or else by binary search, which sets `near`.
+#[inline(always)]
+fn find_segment<'a>(segs: &'a [Seg], pa: u64, near: &mut usize) -> Option<&'a Seg>
+    requires { segment_out_of_order segs.now ≡ None }
+    ensures { option_copied result ≡ find (has_address pa) segs.now }
+{
+    match segs.get(*near) {
+        Some(seg) if has_address(seg, pa) => Some(seg),
+        _ => search_segment(segs, pa, near),
+    }
+}
+
+// The same by binary search. `near` becomes the index of the last segment that begins at or before the address.
+#[cold]
+#[inline(never)]
+fn search_segment<'a>(segs: &'a [Seg], pa: u64, near: &mut usize) -> Option<&'a Seg>
     requires { segment_out_of_order segs.now ≡ None }
     ensures { option_copied result ≡ find (has_address pa) segs.now }
 {
@@ -176,6 +190,7 @@ fn find_segment(segs: &[Seg], pa: u64) -> Option<&Seg>
     if count == 0 {
         return None;
     }
+    *near = count - 1;
     let seg = &segs[count - 1];
     if has_address(seg, pa) {
         Some(seg)

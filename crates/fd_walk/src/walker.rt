@@ -20,18 +20,20 @@ pub struct Walker<E: Entry, const LEVELS: usize> {
     entry: PhantomData<E>,
 }
 
-/// A table that a walk comes to, and the height of its entries.
+/// A table that a walk comes to, the height of its entries, and where in memory its words are looked for first.
 #[derive(Clone, Copy)]
 pub(crate) struct Place {
     pub(crate) height: u32,
     pub(crate) table: u64,
+    pub(crate) near: usize,
 }
 
-/// The lowest entry that a walk came to, with the table that holds it.
+/// The lowest entry that a walk came to, with the table that holds it, and where in memory that was found.
 #[derive(Clone, Copy)]
 pub(crate) struct Reached {
     pub(crate) height: u32,
     pub(crate) table: u64,
+    pub(crate) near: usize,
     pub(crate) entry: Option<u64>,
 }
 
@@ -89,10 +91,12 @@ impl<E: Entry, const LEVELS: usize> Walker<E, LEVELS> {
         Place {
             height: LEVELS as u32 - 1,
             table: root,
+            near: 0,
         }
     }
 
     /// Walks on from a table that the walk for an address comes to.
+    #[inline(always)]
     pub(crate) fn descend_from<M: Memory>(mem: &M, place: Place, va: u64, lowest: u32) -> Reached
         requires low { lowest ≤ place.height }
         requires high { place.height ≤ 3 }
@@ -104,18 +108,20 @@ impl<E: Entry, const LEVELS: usize> Walker<E, LEVELS> {
     {
         let mut height = place.height;
         let mut table = place.table;
-        let mut entry = mem.word(table + 8 * index_at(va, height));
+        let mut near = place.near;
+        let mut entry = mem.word_near(table + 8 * index_at(va, height), &mut near);
         while height > lowest {
             match Self::kind(entry, height) {
                 Kind::Table(below) => {
                     table = below;
                     height -= 1;
-                    entry = mem.word(table + 8 * index_at(va, height));
+                    entry = mem.word_near(table + 8 * index_at(va, height), &mut near);
                 }
                 _ => {
                     return Reached {
                         height,
                         table,
+                        near,
                         entry,
                     };
                 }
@@ -124,6 +130,7 @@ impl<E: Entry, const LEVELS: usize> Walker<E, LEVELS> {
         Reached {
             height,
             table,
+            near,
             entry,
         }
     }
