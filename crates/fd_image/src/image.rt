@@ -1,5 +1,5 @@
 //! The valid image, with its words and pages.
-ghost use Rattle.std.specs.Prelude.{◌≡◌, ◌⊎◌, ◌%◌, Some, None, IsTrue, IfSome, IfOk, IfErr, find, option_copied};
+ghost use Rattle.std.specs.Prelude.{◌≡◌, ◌≢◌, ◌⊎◌, ◌<◌, ◌≤◌, ◌+◌, ◌*◌, ◌%◌, ℕ, Some, None, IsTrue, IfSome, IfOk, IfErr, find, option_copied};
 ghost use Rattle.fd_image.specs.Image.{broken_rule, levels_of, segment_out_of_order, is_whole_pages, IsTyped, IsValid};
 ghost use Rattle.fd_image.specs.Physical.{has_address, page_in, page_of, pages_from, pages_in, segment_of, word_in};
 
@@ -145,6 +145,7 @@ impl Image {
         ensures value { option_copied result ≡ segment_of self.now pa }
         ensures within { IfSome result (λ seg. IsTrue (has_address pa seg.now)) }
         ensures whole { IfSome result (λ seg. IsTrue (is_whole_pages seg.now)) }
+        ensures valid { IsValid self.now }
     {
         find_segment(self.segs(), pa, near)
     }
@@ -154,6 +155,13 @@ impl Memory for Image {
     ghost use Rattle.fd_image.specs.Physical.{word_of};
 
     ghost word_at = { word_of };
+
+    fn alike(&self, pa: u64, most: u64, near: &mut usize) -> u64 {
+        match self.segment_of(pa, near) {
+            Some(seg) => words_alike(seg, pa, most),
+            None => most,
+        }
+    }
 
     #[tactic(auto, unfolding(crate::specs::Physical::word_of))]
     fn word_near(&self, pa: u64, near: &mut usize) -> Option<u64> {
@@ -165,6 +173,27 @@ impl Memory for Image {
             None => None,
         }
     }
+}
+
+// How many of the `most` words of a page from an address on, in a segment of whole pages, are like the first of them.
+fn words_alike(seg: &Seg, pa: u64, most: u64) -> u64
+    requires aligned { pa % 8 ≡ 0 }
+    requires some { 0 < most }
+    requires page { pa % 4096 + 8 * most ≤ 4096 }
+    requires within { IsTrue (has_address pa seg.now) }
+    requires whole { IsTrue (is_whole_pages seg.now) }
+    ensures some { 0 < result }
+    ensures most { result ≤ most }
+    ensures alike { (k : ℕ) → k < result → word_in seg.now (pa + 8 * k) ≡ word_in seg.now pa }
+    ensures other { result < most → word_in seg.now (pa + 8 * result) ≢ word_in seg.now pa }
+{
+    let first = word_in(seg, pa);
+    for count in 1..most {
+        if word_in(seg, pa + 8 * count) != first {
+            return count;
+        }
+    }
+    most
 }
 
 // The segment in which an address lies: the one of the index `near`, or else by binary search, which sets `near`.

@@ -114,6 +114,7 @@ impl<E: Entry, const LEVELS: usize> Walker<E, LEVELS> {
     fn past_absent_entries<M: Memory>(mem: &M, place: Place, first: u64) -> u64
         requires first { first < 512 }
         requires high { place.height ≤ 3 }
+        requires aligned { place.table % 4096 ≡ 0 }
         requires room { place.table + 4096 ≤ 2 ^ 64 }
         ensures from_ { first ≤ result }
         ensures to { result ≤ 512 }
@@ -123,8 +124,10 @@ impl<E: Entry, const LEVELS: usize> Walker<E, LEVELS> {
         let mut index = first;
         let mut near = place.near;
         while index < 512 {
-            match Self::kind(mem.word_near(place.table + 8 * index, &mut near), place.height) {
-                Kind::Absent => index += 1,
+            let at = place.table + 8 * index;
+            match Self::kind(mem.word_near(at, &mut near), place.height) {
+                // What is like an absent entry is absent.
+                Kind::Absent => index += mem.alike(at, 512 - index, &mut near),
                 _ => return index,
             }
         }

@@ -100,10 +100,12 @@ impl<E: Entry, const LEVELS: usize> Walker<E, LEVELS> {
     pub(crate) fn descend_from<M: Memory>(mem: &M, place: Place, va: u64, lowest: u32) -> Reached
         requires low { lowest ≤ place.height }
         requires high { place.height ≤ 3 }
+        requires aligned { place.table % 4096 ≡ 0 }
         requires room { place.table + 4096 ≤ 2 ^ 64 }
         ensures reached { (root : ℕ) → let tables = tables_of (M.word_at mem.now) E.kind_of LEVELS root in
             IsInTable tables va place.height place.table → IsReached tables lowest va result.height result.table result.entry }
         ensures high { result.height ≤ 3 }
+        ensures aligned { result.table % 4096 ≡ 0 }
         ensures room { result.table + 4096 ≤ 2 ^ 64 }
     {
         let mut height = place.height;

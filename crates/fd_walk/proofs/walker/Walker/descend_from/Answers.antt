@@ -13,6 +13,7 @@ loop-height-init g c = record {
       let t = tables_of (g.M.Memory.word_at c.args.mem.now) g.E.Entry.kind_of g.row.LEVELS root in
       way_in_table t c.args.va c.args.place.height c.args.place.table c.word_near-entry.result begins
       (c.word_near-entry.ensures ∙ ap (λ index. g.M.Memory.word_at c.args.mem.now (c.args.place.table + 8 * index)) c.index_at.ensures);
+  aligned = c.requires.aligned;
   room = c.requires.room;
 }
 
@@ -27,5 +28,6 @@ loop-height-preserved g c = record {
       (sym c.in-Table.ensures.kind) (omega arith)
       (c.word_near-entry-in-Table.ensures
       ∙ ap (λ index. g.M.Memory.word_at c.args.mem.now (c.in-Table.below + 8 * index)) c.index_at-in-Table.ensures);
+  aligned = c.in-Table.ensures.placed.1.aligned;
   room = omega (arith, c.in-Table.ensures.placed.1.short);
 }
