@@ -172,6 +172,15 @@ fn lends_its_words(rt: &impl Abort, image: &Image) {
     }
 }
 
+// Wherever it is looked for first, a page of zeros has words alike, and so has one that lies in no segment.
+fn tells_words_that_are_alike(rt: &impl Abort, image: &Image) {
+    for near in [0, 7] {
+        assert_eq!(rt; image.alike(START + 8, 511, &mut { near }), 511);
+        assert_eq!(rt; image.alike(START + 0x1000, 512, &mut { near }), 1);
+        assert_eq!(rt; image.alike(START + 0x6000, 512, &mut { near }), 512);
+    }
+}
+
 fn lends_its_pages(rt: &impl Abort, image: &Image) -> Result<(), Fail> {
     let page = image.page(START + 0x2fff).ok_or("a page")?;
     assert_eq!(rt; page.len(), 4096);
@@ -196,6 +205,7 @@ fn lends_its_runs(rt: &impl Abort, image: &Image) {
 
 fn lends_its_memory(rt: &impl Abort, image: &Image) -> Result<(), Fail> {
     lends_its_words(rt, image);
+    tells_words_that_are_alike(rt, image);
     lends_its_runs(rt, image);
     lends_its_pages(rt, image)
 }
