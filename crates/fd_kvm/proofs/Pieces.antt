@@ -1,5 +1,5 @@
 -- The pages of pieces of the kernel window by the directory's entry, and by the file.
-use Rattle.std.proofs.Common.{◌≡◌, ℕ, ◌+◌, ◌-◌, ◌*◌, ◌/◌, ◌%◌, ◌^◌, ◌<◌, ◌≤◌, ◌⊎◌, inl, inr, Bool, true, false, if◌then◌else◌, nat_le, min, List, [], ◌++◌, take, drop, slice_range, Option, Some, None, Result, Ok, Err, refl, sym, ap, subst, ◌∙◌, arith, append_assoc}
+use Rattle.std.proofs.Common.{◌≡◌, ℕ, ◌+◌, ◌-◌, ◌*◌, ◌/◌, ◌%◌, ◌^◌, ◌<◌, ◌≤◌, ◌⊎◌, inl, inr, Bool, true, false, if◌then◌else◌, nat_le, min, List, [], ◌++◌, length, take, drop, slice_range, Option, Some, None, Result, Ok, Err, refl, sym, ap, subst, ◌∙◌, arith, append_assoc}
 use Rattle.std.specs.Int.{w64, div_ceil, from_le_bytes}
 use Rattle.std.specs.List.{filter_map, range_with_len}
 use Rattle.std.proofs.lemmas.List.{take-take, drop-take, drop-drop}
@@ -220,3 +220,9 @@ entries_then f s index front pages within is first =
           ∙ ap (λ l. l ++ more.0) (sym (entries_more f s index within))
           ∙ more.1,
     )
+
+-- how many pages there are at most after one more entry
+pub few_more : (each count index front pages : ℕ) → each * index < count → front ≤ min (each * index) count → pages ≤ min (each * index + each) count - each * index → front + pages ≤ min (each * (index + 1)) count
+few_more each count index front pages inside first next =
+    let more : each * (index + 1) ≡ each * index + each = omega arith in
+    omega arith

@@ -1,6 +1,7 @@
 -- What a visitor took part by part, and which pages were marked.
 use Rattle.std.proofs.Common.{◌≡◌, ℕ, zero, suc, ◌+◌, ◌-◌, ◌*◌, ◌<◌, ◌≤◌, Bool, true, false, ◌||◌, nat_eq, List, [], ◌∷◌, ◌++◌, length, Option, Some, None, Result, Ok, Err, IsErr, refl, sym, ap, subst, ◌∙◌, arith, append_assoc, append-nil}
 use Rattle.std.specs.List.{cons_option, filter_map, list_any, range_with_len}
+use Rattle.std.proofs.lemmas.List.{length-append}
 use Rattle.std.proofs.lemmas.List.Folds.{list_any-append}
 use Rattle.std.proofs.lemmas.List.Elements.{filter_map-append}
 use Rattle.fd_site.specs.declared.fault.SiteFault.{SiteFault}
@@ -214,3 +215,16 @@ module _ {V : Type 0} (took : V → Page → Bool → V → Type 0) (h : ℕ →
               ∙ sym (mapped_more h 0 (at + 1) (total - (at + 1))) ∙ ap (λ n. filter_map h (range_with_len 0 n)) (sym more),
         );
       }
+
+-- there are no more items than numbers, and no more first items than items
+length-some : {X : Type 0} (item : Option X) (items : List X) → length (cons_option item items) ≤ 1 + length items
+length-some None items = omega arith
+length-some (Some item) items = omega arith
+
+pub mapped_few : {X : Type 0} (h : ℕ → Option X) (first count : ℕ) → length (filter_map h (range_with_len first count)) ≤ count
+mapped_few h first zero = omega arith
+mapped_few h first (suc count) = omega (arith, length-some (h first) (filter_map h (range_with_len (first + 1) count)), mapped_few h (first + 1) count)
+
+pub given_few : (pages all : List Page) (went_on : Bool) → AreGiven pages all went_on → length pages ≤ length all
+given_few pages all true given = (let e = ap (λ (l : List Page). length l) given in omega arith)
+given_few pages all false given = (let e = ap (λ (l : List Page). length l) given.1 in omega (arith, length-append pages given.0))

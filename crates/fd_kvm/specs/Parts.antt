@@ -98,7 +98,13 @@ entry_pieces s = unit_of s.header / 4096
 abbrev pub pages_of_entries : List ℕ → Sections → (count : ℕ) → List Page
 pages_of_entries f s count = pages_of_pieces f s 0 (min (entry_pieces s * count) (piece_count s.header))
 
--- the pages of the entry of this index
+-- the pieces of the entry of this index: the first, and how many they are
+abbrev pub first_of_entry : Sections → (index : ℕ) → ℕ
+first_of_entry s index = entry_pieces s * index
+
+abbrev pub count_of_entry : Sections → (index : ℕ) → ℕ
+count_of_entry s index = min (first_of_entry s index + entry_pieces s) (piece_count s.header) - first_of_entry s index
+
+-- its pages
 abbrev pub pages_of_entry : List ℕ → Sections → (index : ℕ) → List Page
-pages_of_entry f s index =
-    pages_of_pieces f s (entry_pieces s * index) (min (entry_pieces s * index + entry_pieces s) (piece_count s.header) - entry_pieces s * index)
+pages_of_entry f s index = pages_of_pieces f s (first_of_entry s index) (count_of_entry s index)

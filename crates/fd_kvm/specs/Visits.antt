@@ -1,6 +1,6 @@
 -- What a visitor of pages was given. `took` says what it may do with one page: the visitor before, the page, its answer, and
 -- the visitor after.
-use Rattle.std.specs.Prelude.{◌≡◌, Bool, true, false, List, [], ◌∷◌, ◌++◌, Result, Ok, Err, OnErr}
+use Rattle.std.specs.Prelude.{◌≡◌, ◌^◌, ◌<◌, Bool, true, false, List, [], ◌∷◌, ◌++◌, length, Result, Ok, Err, OnErr}
 use Rattle.fd_site.specs.declared.fault.SiteFault.{SiteFault}
 use Rattle.fd_kvm.specs.declared.page.Page.{Page}
 
@@ -43,5 +43,6 @@ pub record IsWalk {V : Type 0} (took : V → Page → Bool → V → Type 0) (ol
   pub pages : List Page
   pub went_on : Bool
   pub taken : Took took old pages went_on new
+  pub few : length pages < 2 ^ 64
   pub fault : OnErr result (went_on ≡ true)
   pub are : Are pages went_on

@@ -15,6 +15,8 @@ mod span;
 mod tests;
 mod vmcore;
 mod walk;
+#[cfg(test)]
+mod walk_tests;
 
 pub use fault::ReadFault;
 pub use page::{Page, Visit};

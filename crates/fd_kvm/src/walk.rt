@@ -5,7 +5,7 @@ ghost use Rattle.fd_site.specs.Fault.{Rose};
 ghost use Rattle.fd_site.specs.Seen.{Untouched};
 ghost use Rattle.fd_bitmap.specs.Bits.{set_count};
 ghost use Rattle.fd_kvm.specs.OpenFile.{StandsWith};
-ghost use Rattle.fd_kvm.specs.Parts.{AreOfPart, IsPart, IsTable, IsTaken, entry_pieces, goes_on, other_page, other_pages, pages_of_entry};
+ghost use Rattle.fd_kvm.specs.Parts.{AreOfPart, IsPart, IsTable, IsTaken, count_of_entry, entry_pieces, goes_on, other_page, other_pages, pages_of_entry};
 ghost use Rattle.fd_kvm.specs.Visits.{AreGiven, AreOfWalk, IsWalk};
 ghost use Rattle.fd_kvm.specs.Walk.{piece_count, walk_of, window_pages};
 
@@ -66,8 +66,8 @@ impl Vmcore {
         requires stands { Told (S.seen site.old).told (StandsWith self.now pages.old) }
         requires marks { length walked.old ≡ set_count self.now.sections.bits }
         requires inside { entry_pieces self.now.sections * index < piece_count self.now.sections.header }
-        ensures part { IsPart V.took self.now.sections visit.old visit.new walked.old walked.new (goes_on result) (λ pages. Told (S.seen site.old).told (λ c. (f : List ℕ) → file_of c self.now.name ≡ Some f
-            → AreOfPart (pages_of_entry f self.now.sections index) pages result)) }
+        ensures part { IsPart V.took self.now.sections visit.old visit.new walked.old walked.new (goes_on result) (λ pages. (length pages ≤ count_of_entry self.now.sections index)
+            × Told (S.seen site.old).told (λ c. (f : List ℕ) → file_of c self.now.name ≡ Some f → AreOfPart (pages_of_entry f self.now.sections index) pages result)) }
         ensures stands { Told (S.seen site.new).told (StandsWith self.now pages.new) }
         ensures untouched { Untouched (S.seen site.old) (S.seen site.new) }
         ensures cause { OnErr result (Rose (S.seen site.old).faults (S.seen site.new).faults) }
@@ -93,8 +93,8 @@ impl Vmcore {
     ) -> Result<bool, SiteFault>
         requires stands { Told (S.seen site.old).told (StandsWith self.now pages.old) }
         requires marks { length walked.old ≡ set_count self.now.sections.bits }
-        ensures part { IsPart V.took self.now.sections visit.old visit.new walked.old walked.new (goes_on result) (λ pages. Told (S.seen site.old).told (λ c. (f : List ℕ) → file_of c self.now.name ≡ Some f
-            → AreOfPart (window_pages f self.now.sections) pages result)) }
+        ensures part { IsPart V.took self.now.sections visit.old visit.new walked.old walked.new (goes_on result) (λ pages. (length pages ≤ piece_count self.now.sections.header)
+            × Told (S.seen site.old).told (λ c. (f : List ℕ) → file_of c self.now.name ≡ Some f → AreOfPart (window_pages f self.now.sections) pages result)) }
         ensures stands { Told (S.seen site.new).told (StandsWith self.now pages.new) }
         ensures untouched { Untouched (S.seen site.old) (S.seen site.new) }
         ensures cause { OnErr result (Rose (S.seen site.old).faults (S.seen site.new).faults) }
@@ -126,8 +126,9 @@ impl Vmcore {
 
     // Gives the dumped pages that aren't marked, by rising bit.
     fn walk_others<V: Visit>(&self, walked: &Bitmap, visit: &mut V) -> bool
-        ensures { IsTaken V.took visit.old visit.new result
+        ensures taken { IsTaken V.took visit.old visit.new result
             (λ pages. AreGiven pages (other_pages self.now.sections walked.now (length self.now.sections.bits)) result) }
+        ensures few { length self.now.sections.bits < 2 ^ 40 }
     {
         let map = self.map();
         let mut number = 0;

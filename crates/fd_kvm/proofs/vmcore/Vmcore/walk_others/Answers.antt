@@ -12,9 +12,12 @@ pub returns-then-not-visit : goal.returns-then-not-visit
 returns-then-not-visit g c =
     let s = c.args.self.now.sections in
     let h : ℕ → Option Page = other_page s c.args.walked.now in
-    taken_last g.V.Visit.took h c.loop-bit.bit c.args.visit.now c.loop-bit.visit c.visit.new.self (length s.bits) c.in-Some.page
-    (omega (arith, c.map-map.ensures.len, c.loop-bit-test.true, ap (λ (h : MiniHeader). h.bitmapsize) c.header.ensures))
-    (sym c.in-Some.ensures) c.loop-bit.invariant.taken c.if-not-visit.ensures
+    record {
+      taken = taken_last g.V.Visit.took h c.loop-bit.bit c.args.visit.now c.loop-bit.visit c.visit.new.self (length s.bits) c.in-Some.page
+          (omega (arith, c.map-map.ensures.len, c.loop-bit-test.true, ap (λ (h : MiniHeader). h.bitmapsize) c.header.ensures))
+          (sym c.in-Some.ensures) c.loop-bit.invariant.taken c.if-not-visit.ensures;
+      few = omega (arith, c.map-map.ensures.len, ap (λ (h : MiniHeader). h.bitmapsize) c.header.ensures);
+    }
 
 pub loop-bit-preserved : goal.loop-bit-preserved
 loop-bit-preserved g c =
