@@ -5,6 +5,8 @@
 
 mod block;
 mod fault;
+mod page;
+mod piece;
 mod read;
 mod reader;
 mod run;
@@ -12,6 +14,10 @@ mod span;
 #[cfg(test)]
 mod tests;
 mod vmcore;
+mod walk;
+#[cfg(test)]
+mod walk_tests;
 
 pub use fault::ReadFault;
+pub use page::{Page, Visit};
 pub use reader::Kvm;

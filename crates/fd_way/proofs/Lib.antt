@@ -7,6 +7,7 @@ mod Lines
 mod Located
 mod Opening
 mod PageStarts
+mod PagesPrinted
 mod Pieces
 pub mod SameReads
 mod TableEntries

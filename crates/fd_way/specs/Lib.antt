@@ -1,1 +1,3 @@
+pub mod PagesPrinted
+pub mod PagesText
 pub mod ReadText

@@ -3,6 +3,8 @@
 #![tactic(auto)]
 
 pub mod laws;
+mod pages;
 mod text;
 
+pub use pages::{PagesFault, print_pages};
 pub use text::read_text;
