@@ -6,10 +6,17 @@ mod Limits
 mod Lines
 mod Located
 mod Opening
+mod OverClear
 mod PageStarts
 mod PagesPrinted
 mod Pieces
+mod Errors
+mod FileText
+mod FirstSectors
+mod Printing
+mod Savecores
 pub mod SameReads
 mod TableEntries
 mod Translated
 mod Units
+mod Ways

@@ -1,3 +1,6 @@
 pub mod PagesPrinted
 pub mod PagesText
+pub mod Drill
+pub mod Print
 pub mod ReadText
+pub mod Steps
