@@ -6,3 +6,4 @@ pub mod Session
 pub mod Stands
 pub mod Table
 pub mod Turning
+pub mod Whole

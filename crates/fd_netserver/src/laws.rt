@@ -1,11 +1,14 @@
 //! What holds of the histories of servers.
 
 ghost use Rattle.std.specs.Prelude.{◌≡◌, ◌⊎◌, ℕ, List, [], ◌++◌, Option, Some};
+ghost use Rattle.fd_kdh.specs.declared.header.Header.{Header};
 ghost use Rattle.fd_netmsg.specs.Each.{Each};
-ghost use Rattle.fd_netserver.specs.Files.{Files};
-ghost use Rattle.fd_netserver.specs.Session.{Input, Open, Session, Turn, after_reply, session_at, sessions_after};
+ghost use Rattle.fd_netmsg.specs.Message.{Message, finished};
+ghost use Rattle.fd_netserver.specs.Files.{Files, parity_of};
+ghost use Rattle.fd_netserver.specs.Session.{Done, Input, Open, Session, Turn, after_reply, session_at, sessions_after};
 ghost use Rattle.fd_netserver.specs.Stands.{AreThere, IsBrokenAt, StandsFor, TurnOf};
-ghost use Rattle.fd_netserver.specs.Table.{row_of};
+ghost use Rattle.fd_netserver.specs.Table.{Ends, Repeats, row_of};
+ghost use Rattle.fd_netserver.specs.Whole.{HasAll, IsTo};
 ghost use Rattle.fd_netserver.specs.declared.reply.Reply.{Reply};
 ghost use Rattle.fd_netserver.specs.declared.reply.Reply.TheVariants.{Ignored};
 ghost use Rattle.fd_netserver.specs.declared.reply.Skip.TheVariants as skip;
@@ -54,4 +57,14 @@ pub fn without_a_fault_a_turn_is_done()
     ensures { (was now : ℕ) (rs : List Record) (ss : List Session) (files : Files) (t : Turn)
         → StandsFor rs ss → IsTurn ss files t → (t.reply ≡ Ignored skip.Broken → Rose was now ⊎ IsBrokenAt rs t.input.slot)
         → Rose was now ⊎ IsDone (row_of ss files t.input) t }
+{}
+
+/// A finished message from the peer of an open session that has all of its dump ends the session, and one to a session that is
+/// done already is acknowledged again: by the law above, in each call in which no fault of the site comes and memory is found.
+pub fn a_whole_session_is_finished()
+    ensures ends { (ss : List Session) (files : Files) (input : Input) (s : Session) (m : Message)
+        → IsTo ss input s m → m.kind ≡ finished → (bytes : List ℕ) (h : Header) → s.phase ≡ Open → HasAll s bytes h
+        → row_of ss files input ≡ Ends input.slot m.seqno s.number h (parity_of bytes) }
+    ensures again { (ss : List Session) (files : Files) (input : Input) (s : Session) (m : Message)
+        → IsTo ss input s m → m.kind ≡ finished → s.phase ≡ Done → row_of ss files input ≡ Repeats input.slot m.seqno }
 {}
