@@ -23,7 +23,7 @@ use Rattle.fd_site.specs.Contents.{Contents, file_of}
 use Rattle.fd_site.specs.Trace.{LinkEvent, Sent, Got, Silent}
 use Rattle.fd_site.specs.declared.ports.Peer.{Peer}
 use Rattle.fd_networld.specs.Delivery.{IsCarried, IsSendable, IsSending, WasAnswered}
-use Rattle.fd_networld.specs.Lawful.{IsLawful, IsServed, contents_with}
+use Rattle.fd_networld.specs.Lawful.{IsLawful, WasDelivered, contents_with}
 use Rattle.fd_networld.specs.Sent.{all_answers, client_peer, port_of_slot, sent_in}
 use Rattle.fd_networld.specs.World.{AreForeign, Does, Follows, IsForeign, IsTaken, Stays, Takes, WillFail, Begins, Story, answering, arriving, beginning, client_after, hearing, runs_of, sending, served_in, state_after, step_of}
 use Rattle.fd_networld.specs.declared.answer.Answer.{Answer}
@@ -168,8 +168,8 @@ module _ (dump : List ℕ) (h : Header) (patience : Patience) where
       carried = holds.carried;
     }
 
-    pub is_served : IsSendable dump h → IsServed dump h story
-    is_served sendable done =
+    pub was_delivered : IsSendable dump h → WasDelivered dump h story
+    was_delivered sendable done =
         let journal = ap (λ (c : Contents). c.journal) holds.contents in
         let base = ap (λ (c : Contents). c.base_file) holds.contents in
         was_served dump h patience story.trace client_peer (contents_of story.site.disk) [] (runs_of story) sendable (completes done)
@@ -178,5 +178,5 @@ module _ (dump : List ℕ) (h : Header) (patience : Patience) where
   pub all_lawful : 1 ≤ patience.polls → (events : List Event) → AreForeign events → (story : Story) → Follows dump h (beginning (chunks dump) patience) events story → IsLawful dump h patience story
   all_lawful some events foreign story follows = is_lawful some story (holds_all (beginning (chunks dump) patience) holds_first events foreign story follows)
 
-  pub all_served : IsSendable dump h → 1 ≤ patience.polls → (events : List Event) → AreForeign events → (story : Story) → Follows dump h (beginning (chunks dump) patience) events story → IsServed dump h story
-  all_served sendable some events foreign story follows = is_served some story (holds_all (beginning (chunks dump) patience) holds_first events foreign story follows) sendable
+  pub all_delivered : IsSendable dump h → 1 ≤ patience.polls → (events : List Event) → AreForeign events → (story : Story) → Follows dump h (beginning (chunks dump) patience) events story → WasDelivered dump h story
+  all_delivered sendable some events foreign story follows = was_delivered some story (holds_all (beginning (chunks dump) patience) holds_first events foreign story follows) sendable

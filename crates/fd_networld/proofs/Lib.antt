@@ -1,6 +1,7 @@
 mod Carrying
 mod Chunks
 mod Cuts
+mod Examples
 mod Lawful
 mod Running
 mod Says

@@ -23,7 +23,7 @@ use Rattle.fd_site.specs.Fault.{Rose}
 use Rattle.fd_site.specs.Seen.{Frame}
 use Rattle.fd_site.specs.Trace.{LinkEvent, Got}
 use Rattle.fd_site.specs.declared.ports.Peer.{Peer}
-use Rattle.fd_networld.specs.Sent.{Exchange, Served, all_answers, client_peer, port_of_slot}
+use Rattle.fd_networld.specs.Sent.{Exchange, AllRuns, all_answers, client_peer, port_of_slot}
 use Rattle.fd_networld.specs.Steps.{HasTaken, IsNow, gone}
 use Rattle.fd_networld.specs.World.{Shows, Stays, Goes, Takes, WillFail, Begins, Story, WasBroken, answering, arriving, client_after, exchange_of, exchanges_of, failing, hearing, sending, served_in}
 use Rattle.fd_networld.specs.declared.answer.Answer.{Answer}
@@ -89,7 +89,7 @@ module _ (story : Story) (was : World) (shows : Shows story was) where
       → IsNow (answering (slice_get (all_answers (served_in story)) n) (want_of story.client.state)) story now
   answers_now n now is =
       subst (λ (c : Standing). IsNow (answering (slice_get (all_answers (served_in story)) n) (want_of c.state)) story now) shows.client
-      (subst (λ (r : Served). IsNow (answering (slice_get (all_answers r) n) (want_of was.client.state)) story now) shows.runs
+      (subst (λ (r : AllRuns). IsNow (answering (slice_get (all_answers r) n) (want_of was.client.state)) story now) shows.runs
       (answers_by (slice_get (all_answers was.runs) n) (want_of was.client.state) now is))
 
   -- the server takes an input
@@ -137,7 +137,7 @@ module _ (story : Story) (was : World) (shows : Shows story was) where
         client = taken.client ∙ shows.client;
         site = refl;
         trace = taken.trace ∙ shows.trace;
-        runs = taken.runs ∙ ap (λ (r : Served). record r { run = r.run ++ exchange_of last ∷ [] }) shows.runs
+        runs = taken.runs ∙ ap (λ (r : AllRuns). record r { run = r.run ++ exchange_of last ∷ [] }) shows.runs
             ∙ ap (λ (l : List Exchange). record { earlier = map exchanges_of story.earlier; run = l }) (sym (map-append exchange_of story.run (last ∷ [])));
         server = subst (StandsFor now.server) (sym (sessions_after-append [] story.run (last ∷ []))) (taken.stands sessions shows.server);
       };
@@ -171,7 +171,7 @@ module _ (story : Story) (was : World) (shows : Shows story was) where
       client = shows.client;
       site = shows.site;
       trace = shows.trace;
-      runs = ap (λ (r : Served). record { earlier = r.earlier ++ r.run ∷ []; run = [] }) shows.runs
+      runs = ap (λ (r : AllRuns). record { earlier = r.earlier ++ r.run ∷ []; run = [] }) shows.runs
           ∙ ap (λ (l : List (List Exchange)). record { earlier = l; run = [] }) (sym (map-append exchanges_of story.earlier (story.run ∷ [])));
       server = tt;
     });

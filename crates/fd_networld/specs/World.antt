@@ -22,7 +22,7 @@ use Rattle.fd_site.specs.Fault.{Rose}
 use Rattle.fd_site.specs.Seen.{Frame}
 use Rattle.fd_site.specs.Trace.{LinkEvent, Opening, Sent, Got, Silent}
 use Rattle.fd_site.specs.declared.ports.Peer.{Peer}
-use Rattle.fd_networld.specs.Sent.{Exchange, Served, all_answers, client_peer, port_of_slot, sent_in}
+use Rattle.fd_networld.specs.Sent.{Exchange, AllRuns, all_answers, client_peer, port_of_slot, sent_in}
 use Rattle.fd_networld.specs.declared.answer.Answer.{Answer}
 use Rattle.fd_networld.specs.declared.event.Event.{Event}
 use Rattle.fd_networld.specs.declared.event.Event.TheVariants.{Send, ToServer, ToClient, Stranger, ClientSilent, ServerSilent, SiteFails, Restart}
@@ -48,7 +48,7 @@ exchange_of t = record { input = t.input; reply = t.reply }
 abbrev pub exchanges_of : List Turn → List Exchange
 exchanges_of ts = map exchange_of ts
 
-abbrev pub served_in : Story → Served
+abbrev pub served_in : Story → AllRuns
 served_in story = record { earlier = map exchanges_of story.earlier; run = exchanges_of story.run }
 
 -- What an event comes to: nothing; the client sends, or its poll is over; the server takes a datagram; the site's next

@@ -33,6 +33,9 @@ const CLIENT: Peer = Peer {
 // The port of slot 0; slot k has the k-th after it.
 const FIRST_PORT: u16 = 40000;
 
+// The last slot; the first one is the herald's.
+const LAST_SLOT: u16 = 16;
+
 impl World {
     /// Before any event, for a dump of so many chunks.
     pub(crate) fn begin(alloc: Global, chunks: u32, limits: Limits) -> Result<World, AllocError>
@@ -131,7 +134,7 @@ impl World {
         requires there { HasFiles self.old }
         ensures now { (story : Story) → Shows story self.old → OnOk result (IsNow (arriving slot peer (Some bytes.items)) story self.new) }
     {
-        if slot > 16 {
+        if slot > LAST_SLOT {
             return Ok(());
         }
         self.take(slot, peer, bytes)
