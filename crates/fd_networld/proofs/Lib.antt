@@ -10,3 +10,4 @@ mod Served
 mod Showing
 mod There
 mod Walking
+mod Watching
