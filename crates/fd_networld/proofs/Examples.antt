@@ -1,5 +1,5 @@
 -- Small stories, computed: what can happen in them.
-use Rattle.std.proofs.Common.{◌≡◌, ℕ, List, [], ◌∷◌, Some, slice_get, refl}
+use Rattle.std.proofs.Common.{◌≡◌, ℕ, List, [], ◌∷◌, Some, refl}
 use Rattle.fd_kdh.specs.declared.header.Header.{Header}
 use Rattle.fd_netclient.specs.Datagram.{datagram}
 use Rattle.fd_netclient.specs.Trace.{Patience}
@@ -7,9 +7,9 @@ use Rattle.fd_netclient.specs.declared.client.Want.TheVariants as want
 use Rattle.fd_netmsg.specs.Message.{ack}
 use Rattle.fd_netserver.specs.declared.reply.Reply.TheVariants.{Opened}
 use Rattle.fd_netserver.specs.Stands.{TurnOf}
-use Rattle.fd_site.specs.Trace.{LinkEvent, Sent, Got, Silent}
+use Rattle.fd_site.specs.Trace.{LinkEvent, Sent, Got}
 use Rattle.fd_networld.specs.Sent.{client_peer}
-use Rattle.fd_networld.specs.World.{Story, Stays, Goes, Takes, answering, arriving, beginning, client_after, step_of}
+use Rattle.fd_networld.specs.World.{Story, Stays, Goes, Takes, answering, beginning, client_after, step_of}
 use Rattle.fd_networld.specs.declared.event.Event.TheVariants.{Send, ToServer, ToClient, ClientSilent}
 
 abbrev calm : Patience

@@ -1,9 +1,9 @@
 -- What a call that is watched tells of its site's count.
-use Rattle.std.proofs.Common.{◌≡◌, inl, inr, ℕ, ◌+◌, ◌-◌, ◌≤◌, ◌^◌, min, Bool, true, false, if◌then◌else◌, Contains, List, [], ◌↔◌, IsErr, Result, Ok, Err, OnErr, OnOk, refl, sym, ◌∙◌, ap, subst, arith}
-use Rattle.fd_fake.specs.Calls.{CallCount, IsDue, IsFailedCall, after_call, after_fault, after_want, risen}
+use Rattle.std.proofs.Common.{◌≡◌, inl, inr, ℕ, ◌+◌, ◌≤◌, Bool, true, false, if◌then◌else◌, Contains, List, [], ◌↔◌, IsErr, Result, Ok, Err, OnErr, OnOk, refl, sym, ◌∙◌, ap, subst, arith}
+use Rattle.fd_fake.specs.Calls.{CallCount, IsDue, IsFailedCall, after_call, after_fault, risen}
 use Rattle.fd_fake.specs.MemSite.{SiteInMemory}
 use Rattle.fd_site.specs.Fault.{Rose}
-use Rattle.fd_networld.specs.Watched.{IsCalm, IsWatched, one_if}
+use Rattle.fd_networld.specs.Watched.{IsWatched, one_if}
 
 pub next_after : {T E : Type 0} (r : Result T E) (old new : CallCount) → OnOk r (new ≡ after_call old) → OnErr r (IsFailedCall old new) → new.next ≡ false
 next_after (Ok x) old new ok err = ap (λ (c : CallCount). c.next) ok
