@@ -23,9 +23,10 @@ use Rattle.fd_site.specs.Contents.{Contents, file_of}
 use Rattle.fd_site.specs.Trace.{LinkEvent, Sent, Got, Silent}
 use Rattle.fd_site.specs.declared.ports.Peer.{Peer}
 use Rattle.fd_networld.specs.Delivery.{IsCarried, IsSendable, IsSending, WasAnswered}
-use Rattle.fd_networld.specs.Lawful.{IsLawful, IsServed, contents_with}
+use Rattle.fd_networld.specs.Lawful.{IsLawful, WasDelivered, contents_with}
 use Rattle.fd_networld.specs.Sent.{all_answers, client_peer, port_of_slot, sent_in}
 use Rattle.fd_networld.specs.World.{AreForeign, Does, Follows, IsForeign, IsTaken, Stays, Takes, WillFail, Begins, Story, answering, arriving, beginning, client_after, hearing, runs_of, sending, served_in, state_after, step_of}
+use Rattle.fd_networld.specs.Watched.{IsCalm}
 use Rattle.fd_networld.specs.declared.answer.Answer.{Answer}
 use Rattle.fd_networld.specs.declared.event.Event.{Event}
 use Rattle.fd_networld.specs.declared.event.Event.TheVariants.{Send, ToServer, ToClient, Stranger, ClientSilent, ServerSilent, SiteFails, Restart}
@@ -40,10 +41,11 @@ module _ (dump : List ℕ) (h : Header) (patience : Patience) where
     pub passes : Passes dump h patience (start patience (chunks dump)) story.trace story.client.state
     pub runs : AreServerRuns (file_in []) (runs_of story)
     pub contents : contents_of story.site.disk ≡ contents_with (entries_in (all_turns (runs_of story)))
+    pub calm : IsCalm story.site.calls story.waiting
     pub carried : IsCarried client_peer story.trace (all_turns (runs_of story))
 
   pub holds_first : Holds (beginning (chunks dump) patience)
-  holds_first = record { patience_is = refl; passes = refl; runs = (tt, tt); contents = refl; carried = record { answers = tt; inputs = tt } }
+  holds_first = record { patience_is = refl; passes = refl; runs = (tt, tt); contents = refl; calm = record { fails = refl; next = λ e. e }; carried = record { answers = tt; inputs = tt } }
 
   module _ (was : Story) (holds : Holds was) where
     abbrev turns : List Turn
@@ -63,6 +65,7 @@ module _ (dump : List ℕ) (h : Header) (patience : Patience) where
       passes = subst (λ (p : Patience). Passes dump h patience (start patience (chunks dump)) (was.trace ++ e ∷ []) (state_after p e was.client.state)) (sym holds.patience_is) passes;
       runs = holds.runs;
       contents = holds.contents;
+      calm = holds.calm;
       carried = carried_event client_peer was.trace turns e holds.carried answered;
     })
 
@@ -108,6 +111,7 @@ module _ (dump : List ℕ) (h : Header) (patience : Patience) where
       contents = by_some _ _ t.journal
           ∙ ap (λ (c : Contents). record c { journal = c.journal ++ t.turn.entries }) holds.contents
           ∙ ap contents_with (sym (ap entries_in more ∙ entries_in-append turns (t.turn ∷ []) ∙ ap (λ l. entries_in turns ++ l) (append-nil t.turn.entries)));
+      calm = t.calm;
       carried = subst (IsCarried client_peer was.trace) (sym more)
           (carried_turn client_peer was.trace turns t.turn holds.carried (subst (λ (i : Input). i.peer ≡ client_peer → OneOf (IsSending i.bytes) was.trace) (sym t.input_is) sent));
     })
@@ -133,11 +137,12 @@ module _ (dump : List ℕ) (h : Header) (patience : Patience) where
       passes = holds.passes;
       runs = runs_begin (file_in []) (runs_of was) holds.runs;
       contents = holds.contents ∙ ap (λ (ts : List Turn). contents_with (entries_in ts)) (sym (turns-begin (runs_of was)));
+      calm = holds.calm;
       carried = subst (IsCarried client_peer was.trace) (sym (turns-begin (runs_of was))) holds.carried;
     })
 
     fails : (next : Story) → Does WillFail was next → Holds next
-    fails next is = subst Holds (sym is) (record { patience_is = holds.patience_is; passes = holds.passes; runs = holds.runs; contents = holds.contents; carried = holds.carried })
+    fails next is = subst Holds (sym is) (record { patience_is = holds.patience_is; passes = holds.passes; runs = holds.runs; contents = holds.contents; calm = record { fails = holds.calm.fails; next = λ e. refl }; carried = holds.carried })
 
     pub holds_next : (event : Event) → IsForeign event → (next : Story) → Does (step_of dump h was event) was next → Holds next
     holds_next Send foreign next does = sends (want_of was.client.state) refl next does
@@ -168,8 +173,8 @@ module _ (dump : List ℕ) (h : Header) (patience : Patience) where
       carried = holds.carried;
     }
 
-    pub is_served : IsSendable dump h → IsServed dump h story
-    is_served sendable done =
+    pub was_delivered : IsSendable dump h → WasDelivered dump h story
+    was_delivered sendable done =
         let journal = ap (λ (c : Contents). c.journal) holds.contents in
         let base = ap (λ (c : Contents). c.base_file) holds.contents in
         was_served dump h patience story.trace client_peer (contents_of story.site.disk) [] (runs_of story) sendable (completes done)
@@ -178,5 +183,5 @@ module _ (dump : List ℕ) (h : Header) (patience : Patience) where
   pub all_lawful : 1 ≤ patience.polls → (events : List Event) → AreForeign events → (story : Story) → Follows dump h (beginning (chunks dump) patience) events story → IsLawful dump h patience story
   all_lawful some events foreign story follows = is_lawful some story (holds_all (beginning (chunks dump) patience) holds_first events foreign story follows)
 
-  pub all_served : IsSendable dump h → 1 ≤ patience.polls → (events : List Event) → AreForeign events → (story : Story) → Follows dump h (beginning (chunks dump) patience) events story → IsServed dump h story
-  all_served sendable some events foreign story follows = is_served some story (holds_all (beginning (chunks dump) patience) holds_first events foreign story follows) sendable
+  pub all_delivered : IsSendable dump h → 1 ≤ patience.polls → (events : List Event) → AreForeign events → (story : Story) → Follows dump h (beginning (chunks dump) patience) events story → WasDelivered dump h story
+  all_delivered sendable some events foreign story follows = was_delivered some story (holds_all (beginning (chunks dump) patience) holds_first events foreign story follows) sendable

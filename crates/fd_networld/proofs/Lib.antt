@@ -1,6 +1,7 @@
 mod Carrying
 mod Chunks
 mod Cuts
+mod Examples
 mod Lawful
 mod Running
 mod Says
@@ -9,3 +10,4 @@ mod Served
 mod Showing
 mod There
 mod Walking
+mod Watching

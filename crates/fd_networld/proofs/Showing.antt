@@ -19,13 +19,12 @@ use Rattle.fd_netserver.specs.declared.reply.Reply.TheVariants.{Ignored}
 use Rattle.fd_netserver.specs.declared.reply.Skip.TheVariants as skip
 use Rattle.fd_netserver.proofs.More.{sessions_after-append}
 use Rattle.fd_site.specs.Contents.{Adds, Told, file_of, with_entries}
-use Rattle.fd_site.specs.Fault.{Rose}
-use Rattle.fd_site.specs.Seen.{Frame}
 use Rattle.fd_site.specs.Trace.{LinkEvent, Got}
 use Rattle.fd_site.specs.declared.ports.Peer.{Peer}
-use Rattle.fd_networld.specs.Sent.{Exchange, Served, all_answers, client_peer, port_of_slot}
+use Rattle.fd_networld.specs.Sent.{Exchange, AllRuns, all_answers, client_peer, port_of_slot}
 use Rattle.fd_networld.specs.Steps.{HasTaken, IsNow, gone}
 use Rattle.fd_networld.specs.World.{Shows, Stays, Goes, Takes, WillFail, Begins, Story, WasBroken, answering, arriving, client_after, exchange_of, exchanges_of, failing, hearing, sending, served_in}
+use Rattle.fd_networld.specs.Watched.{HasFailed}
 use Rattle.fd_networld.specs.declared.answer.Answer.{Answer}
 use Rattle.fd_networld.specs.declared.world.World.{World}
 
@@ -48,6 +47,7 @@ module _ (story : Story) (was : World) (shows : Shows story was) where
     shows = subst (Shows (record story { client = client_after e story.client; trace = story.trace ++ e ∷ [] })) (sym is) (record {
       client = ap (client_after e) shows.client;
       site = shows.site;
+      waiting = shows.waiting;
       trace = ap (λ l. l ++ e ∷ []) shows.trace;
       runs = shows.runs;
       server = shows.server;
@@ -89,7 +89,7 @@ module _ (story : Story) (was : World) (shows : Shows story was) where
       → IsNow (answering (slice_get (all_answers (served_in story)) n) (want_of story.client.state)) story now
   answers_now n now is =
       subst (λ (c : Standing). IsNow (answering (slice_get (all_answers (served_in story)) n) (want_of c.state)) story now) shows.client
-      (subst (λ (r : Served). IsNow (answering (slice_get (all_answers r) n) (want_of was.client.state)) story now) shows.runs
+      (subst (λ (r : AllRuns). IsNow (answering (slice_get (all_answers r) n) (want_of was.client.state)) story now) shows.runs
       (answers_by (slice_get (all_answers was.runs) n) (want_of was.client.state) now is))
 
   -- the server takes an input
@@ -104,7 +104,7 @@ module _ (story : Story) (was : World) (shows : Shows story was) where
     last = TurnOf input taken.reply adds.0
 
     abbrev next_story : Story
-    next_story = record story { site = now.site; run = story.run ++ last ∷ [] }
+    next_story = record story { site = now.site; waiting = now.waiting; run = story.run ++ last ∷ [] }
 
     is_turn : IsTurn sessions (file_of (contents_of story.site.disk)) last
     is_turn = subst (λ (m : SiteInMemory). IsTurn sessions (file_of (contents_of m.disk)) last) shows.site (adds.1 (contents_of was.site.disk) refl)
@@ -112,9 +112,9 @@ module _ (story : Story) (was : World) (shows : Shows story was) where
     journal : Some (contents_of now.site.disk) ≡ with_entries (Some (contents_of story.site.disk)) last.entries
     journal = subst (λ (m : SiteInMemory). Some (contents_of now.site.disk) ≡ with_entries (Some (contents_of m.disk)) last.entries) shows.site adds.2
 
-    cause : last.reply ≡ Ignored skip.Broken → Rose story.site.calls.faults now.site.calls.faults ⊎ WasBroken sessions input.slot
+    cause : last.reply ≡ Ignored skip.Broken → HasFailed story.waiting now.waiting ⊎ WasBroken sessions input.slot
     cause is = elim (taken.cause is) [
-      | inl rose ↦ inl (subst (λ (m : SiteInMemory). Rose m.calls.faults now.site.calls.faults) shows.site rose)
+      | inl failed ↦ inl (record { waited = sym shows.waiting ∙ failed.waited; over = failed.over })
       | inr broken ↦
           let it = broken_at was.server sessions (input.slot - 1) shows.server broken.0 broken.1 in
           inr (record { session = it.0; there = it.1; broken = it.2 })
@@ -126,18 +126,22 @@ module _ (story : Story) (was : World) (shows : Shows story was) where
       does = record {
         turn = last;
         site = now.site;
+        waiting = now.waiting;
         is = refl;
         input_is = refl;
         is_turn = is_turn;
         journal = journal;
-        frame = subst (λ (m : SiteInMemory). Frame (seen_of m) (seen_of now.site)) shows.site taken.frame;
+        block = taken.block ∙ ap (λ (m : SiteInMemory). m.block) shows.site;
+        calm = taken.calm;
+        still = λ e. sym shows.waiting ∙ taken.still e;
         cause = cause;
       };
       shows = record {
         client = taken.client ∙ shows.client;
         site = refl;
+        waiting = refl;
         trace = taken.trace ∙ shows.trace;
-        runs = taken.runs ∙ ap (λ (r : Served). record r { run = r.run ++ exchange_of last ∷ [] }) shows.runs
+        runs = taken.runs ∙ ap (λ (r : AllRuns). record r { run = r.run ++ exchange_of last ∷ [] }) shows.runs
             ∙ ap (λ (l : List Exchange). record { earlier = map exchanges_of story.earlier; run = l }) (sym (map-append exchange_of story.run (last ∷ [])));
         server = subst (StandsFor now.server) (sym (sessions_after-append [] story.run (last ∷ []))) (taken.stands sessions shows.server);
       };
@@ -170,20 +174,21 @@ module _ (story : Story) (was : World) (shows : Shows story was) where
     shows = subst (Shows (record story { earlier = story.earlier ++ story.run ∷ []; run = [] })) (sym is) (record {
       client = shows.client;
       site = shows.site;
+      waiting = shows.waiting;
       trace = shows.trace;
-      runs = ap (λ (r : Served). record { earlier = r.earlier ++ r.run ∷ []; run = [] }) shows.runs
+      runs = ap (λ (r : AllRuns). record { earlier = r.earlier ++ r.run ∷ []; run = [] }) shows.runs
           ∙ ap (λ (l : List (List Exchange)). record { earlier = l; run = [] }) (sym (map-append exchanges_of story.earlier (story.run ∷ [])));
       server = tt;
     });
     fed = λ fed. fed;
   }
 
-  pub fails_now : (now : World) → now ≡ record was { site = failing was.site } → IsNow WillFail story now
+  pub fails_now : (now : World) → now ≡ record was { site = failing was.site; waiting = true } → IsNow WillFail story now
   fails_now now is = record {
-    next = record story { site = failing story.site };
+    next = record story { site = failing story.site; waiting = true };
     does = refl;
-    shows = subst (Shows (record story { site = failing story.site })) (sym is)
-        (record { client = shows.client; site = ap failing shows.site; trace = shows.trace; runs = shows.runs; server = shows.server });
+    shows = subst (Shows (record story { site = failing story.site; waiting = true })) (sym is)
+        (record { client = shows.client; site = ap failing shows.site; waiting = refl; trace = shows.trace; runs = shows.runs; server = shows.server });
     fed = λ fed. fed;
   }
 

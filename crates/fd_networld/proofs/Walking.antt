@@ -11,7 +11,7 @@ use Rattle.fd_networld.specs.Steps.{IsChunked}
 use Rattle.fd_networld.specs.World.{Does, Follows, Shows, Story, beginning, step_of}
 use Rattle.fd_networld.specs.declared.event.Event.{Event}
 use Rattle.fd_networld.specs.declared.world.World.{World}
-use Rattle.fd_networld.proofs.Lawful.{Holds, is_lawful, is_served}
+use Rattle.fd_networld.proofs.Lawful.{Holds, is_lawful, was_delivered}
 
 module _ (dump : List ℕ) (h : Header) where
   pub follows_more : (was : Story) (events : List Event) (now : Story) (event : Event) (next : Story) → Follows dump h was events now → Does (step_of dump h now event) now next
@@ -37,5 +37,5 @@ is_world dump h patience events w story can some follows holds shows = record {
   follows = follows;
   shows = shows;
   lawful = is_lawful dump h patience some story holds;
-  served = is_served dump h patience some story holds can;
+  delivered = was_delivered dump h patience some story holds can;
 }

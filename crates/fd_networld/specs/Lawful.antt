@@ -30,8 +30,8 @@ pub record IsLawful (dump : List ℕ) (h : Header) (patience : Patience) (story 
   pub carried : IsCarried client_peer story.trace (all_turns (runs_of story))
 
 -- where its client is done, its dump was delivered
-abbrev pub IsServed : List ℕ → Header → Story → Type 0
-IsServed dump h story = want_of story.client.state ≡ want.Done → IsDelivered dump h client_peer (contents_of story.site.disk) [] (all_turns (runs_of story))
+abbrev pub WasDelivered : List ℕ → Header → Story → Type 0
+WasDelivered dump h story = want_of story.client.state ≡ want.Done → IsDelivered dump h client_peer (contents_of story.site.disk) [] (all_turns (runs_of story))
 
 -- The world of these events: each that could happen has its step, in order, and there is no other step. So it is lawful,
 -- and where its client is done, its dump was delivered.
@@ -40,4 +40,4 @@ pub record IsWorldOf (dump : List ℕ) (h : Header) (patience : Patience) (event
   pub follows : Follows dump h (beginning (chunks dump) patience) events story
   pub shows : Shows story w
   pub lawful : IsLawful dump h patience story
-  pub served : IsServed dump h story
+  pub delivered : WasDelivered dump h story

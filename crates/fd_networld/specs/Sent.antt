@@ -42,10 +42,10 @@ abbrev pub answers_in : List Exchange → List Answer
 answers_in exchanges = filter_map (λ x. answer_to x.input.peer x.reply) exchanges
 
 -- what the servers of a world took and answered, server by server; the last of them is running
-pub record Served : Type 0 where
+pub record AllRuns : Type 0 where
   pub earlier : List (List Exchange)
   pub run : List Exchange
 
 -- the answers of all servers, in order
-abbrev pub all_answers : Served → List Answer
+abbrev pub all_answers : AllRuns → List Answer
 all_answers served = answers_in (flat_map (λ run. run) served.earlier ++ served.run)

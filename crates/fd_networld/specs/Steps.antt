@@ -1,5 +1,5 @@
 -- What the calls of a world do.
-use Rattle.std.specs.Prelude.{◌≡◌, ◌⊎◌, ℕ, ◌≤◌, ◌%◌, ◌^◌, List, [], ◌∷◌, ◌++◌, length}
+use Rattle.std.specs.Prelude.{true, ◌≡◌, ◌⊎◌, ℕ, ◌≤◌, ◌%◌, ◌^◌, List, [], ◌∷◌, ◌++◌, length}
 use Rattle.fd_fake.specs.Disk.{file_now}
 use Rattle.fd_fake.specs.MemSite.{seen_of}
 use Rattle.fd_netserver.specs.History.{IsTurn}
@@ -9,9 +9,8 @@ use Rattle.fd_netserver.specs.declared.reply.Reply.{Reply}
 use Rattle.fd_netserver.specs.declared.reply.Reply.TheVariants.{Ignored}
 use Rattle.fd_netserver.specs.declared.reply.Skip.TheVariants as skip
 use Rattle.fd_site.specs.Contents.{Adds, Told, file_of}
-use Rattle.fd_site.specs.Fault.{Rose}
-use Rattle.fd_site.specs.Seen.{Frame}
 use Rattle.fd_networld.specs.World.{Story, Step, Stays, Goes, Takes, WillFail, Begins, Does, Shows, client_after}
+use Rattle.fd_networld.specs.Watched.{HasFailed, IsCalm}
 use Rattle.fd_networld.specs.declared.world.World.{World}
 
 -- a dump of whole chunks
@@ -20,9 +19,13 @@ pub record IsChunked (dump : List ℕ) : Type 0 where
   pub most : length dump ≤ 2 ^ 32
   pub whole : length dump % 4096 ≡ 0
 
--- the file of each open session is there
+-- The file of each open session is there.
 abbrev pub HasFiles : World → Type 0
 HasFiles w = AreThere w.server (file_now w.site.disk)
+
+-- the site's next call fails only where that is waited for
+abbrev pub HasCalm : World → Type 0
+HasCalm w = IsCalm w.site.calls w.waiting
 
 -- what a step of the client makes of a world
 abbrev pub gone : Step → World → World
@@ -41,8 +44,10 @@ pub record HasTaken (input : Input) (was now : World) : Type 0 where
   pub turn : (ss : List Session) → StandsFor was.server ss
       → Adds (λ es. Told (seen_of was.site).told (λ c. IsTurn ss (file_of c) (TurnOf input reply es))) (seen_of was.site).told (seen_of now.site).told
   pub stands : (ss : List Session) → StandsFor was.server ss → StandsFor now.server (after_reply ss input reply)
-  pub frame : Frame (seen_of was.site) (seen_of now.site)
-  pub cause : reply ≡ Ignored skip.Broken → Rose was.site.calls.faults now.site.calls.faults ⊎ IsBrokenAt was.server input.slot
+  pub block : now.site.block ≡ was.site.block
+  pub calm : IsCalm now.site.calls now.waiting
+  pub still : now.waiting ≡ true → was.waiting ≡ true
+  pub cause : reply ≡ Ignored skip.Broken → HasFailed was.waiting now.waiting ⊎ IsBrokenAt was.server input.slot
   pub fed : now.site.calls.starved ≡ 0
 
 -- A world is now that of the story which a step makes of a story; and where no call on the site found too little memory,

@@ -1,8 +1,8 @@
 -- A world of events: one client, servers over one site, one after another, and a network that delivers what it is told to.
-use Rattle.std.specs.Prelude.{◌≡◌, ◌⊎◌, ℕ, nat_le, true, List, [], ◌∷◌, ◌++◌, map, slice_get, if◌then◌else◌, Option, Some, None}
+use Rattle.std.specs.Prelude.{◌≡◌, ◌⊎◌, ℕ, nat_le, Bool, true, false, true, List, [], ◌∷◌, ◌++◌, map, slice_get, if◌then◌else◌, Option, Some, None}
 use Rattle.fd_fake.specs.Calls.{no_calls}
 use Rattle.fd_fake.specs.Disk.{contents_of}
-use Rattle.fd_fake.specs.MemSite.{SiteInMemory, seen_of}
+use Rattle.fd_fake.specs.MemSite.{SiteInMemory}
 use Rattle.fd_kdh.specs.declared.header.Header.{Header}
 use Rattle.fd_netclient.specs.Datagram.{datagram}
 use Rattle.fd_netclient.specs.Machine.{Standing, State, on_poll, on_sent, port_of, start, want_of}
@@ -18,21 +18,22 @@ use Rattle.fd_netserver.specs.declared.phase.Phase.TheVariants.{Broken}
 use Rattle.fd_netserver.specs.declared.reply.Reply.TheVariants.{Ignored}
 use Rattle.fd_netserver.specs.declared.reply.Skip.TheVariants as skip
 use Rattle.fd_site.specs.Contents.{file_of, with_entries}
-use Rattle.fd_site.specs.Fault.{Rose}
-use Rattle.fd_site.specs.Seen.{Frame}
 use Rattle.fd_site.specs.Trace.{LinkEvent, Opening, Sent, Got, Silent}
 use Rattle.fd_site.specs.declared.ports.Peer.{Peer}
-use Rattle.fd_networld.specs.Sent.{Exchange, Served, all_answers, client_peer, port_of_slot, sent_in}
+use Rattle.fd_networld.specs.Sent.{Exchange, AllRuns, all_answers, client_peer, port_of_slot, sent_in}
+use Rattle.fd_networld.specs.Watched.{HasFailed, IsCalm}
 use Rattle.fd_networld.specs.declared.answer.Answer.{Answer}
 use Rattle.fd_networld.specs.declared.event.Event.{Event}
 use Rattle.fd_networld.specs.declared.event.Event.TheVariants.{Send, ToServer, ToClient, Stranger, ClientSilent, ServerSilent, SiteFails, Restart}
 use Rattle.fd_networld.specs.declared.world.World.{World}
 
--- A world so far: its client and what that sent, got and found silent; its site; and the turns of its servers, one list for
--- each, with the entries that each turn added to the site's journal. The last server is running.
+-- A world so far: its client and what that sent, got and found silent; its site, and whether that waits for a call to
+-- fail; and the turns of its servers, one list for each, with the entries that each turn added to the site's journal. The
+-- last server is running.
 pub record Story : Type 0 where
   pub client : Standing
   pub site : SiteInMemory
+  pub waiting : Bool
   pub trace : List LinkEvent
   pub earlier : List (List Turn)
   pub run : List Turn
@@ -48,7 +49,7 @@ exchange_of t = record { input = t.input; reply = t.reply }
 abbrev pub exchanges_of : List Turn → List Exchange
 exchanges_of ts = map exchange_of ts
 
-abbrev pub served_in : Story → Served
+abbrev pub served_in : Story → AllRuns
 served_in story = record { earlier = map exchanges_of story.earlier; run = exchanges_of story.run }
 
 -- What an event comes to: nothing; the client sends, or its poll is over; the server takes a datagram; the site's next
@@ -115,23 +116,27 @@ pub record WasBroken (sessions : List Session) (slot : ℕ) : Type 0 where
   pub broken : session.phase ≡ Broken
 
 -- The server takes an input: a turn of its run, over the files as they are, which adds its entries to the journal. It is
--- answered that the session is broken only where a call on the site failed, or where it was broken before.
+-- answered that the session is broken only where a call failed that was waited for, and is no longer; or where the session
+-- was broken before.
 pub record IsTaken (input : Input) (was now : Story) : Type 0 where
   pub turn : Turn
   pub site : SiteInMemory
-  pub is : now ≡ record was { site = site; run = was.run ++ turn ∷ [] }
+  pub waiting : Bool
+  pub is : now ≡ record was { site = site; waiting = waiting; run = was.run ++ turn ∷ [] }
   pub input_is : turn.input ≡ input
   pub is_turn : IsTurn (sessions_after [] was.run) (file_of (contents_of was.site.disk)) turn
   pub journal : Some (contents_of site.disk) ≡ with_entries (Some (contents_of was.site.disk)) turn.entries
-  pub frame : Frame (seen_of was.site) (seen_of site)
-  pub cause : turn.reply ≡ Ignored skip.Broken → Rose was.site.calls.faults site.calls.faults ⊎ WasBroken (sessions_after [] was.run) input.slot
+  pub block : site.block ≡ was.site.block
+  pub calm : IsCalm site.calls waiting
+  pub still : waiting ≡ true → was.waiting ≡ true
+  pub cause : turn.reply ≡ Ignored skip.Broken → HasFailed was.waiting waiting ⊎ WasBroken (sessions_after [] was.run) input.slot
 
 -- what a step makes of a story
 abbrev pub Does : Step → Story → Story → Type 0
 Does Stays was now = now ≡ was
 Does (Goes e) was now = now ≡ record was { client = client_after e was.client; trace = was.trace ++ e ∷ [] }
 Does (Takes input) was now = IsTaken input was now
-Does WillFail was now = now ≡ record was { site = failing was.site }
+Does WillFail was now = now ≡ record was { site = failing was.site; waiting = true }
 Does Begins was now = now ≡ record was { earlier = was.earlier ++ was.run ∷ []; run = [] }
 
 -- what events make of a story, one after another
@@ -144,6 +149,7 @@ abbrev pub beginning : ℕ → Patience → Story
 beginning count patience = record {
   client = record { count = count; patience = patience; state = start patience count };
   site = record { disk = record { base_part = []; base_files = []; journal = [] }; block = 512; calls = no_calls [] };
+  waiting = false;
   trace = [];
   earlier = [];
   run = [];
@@ -153,6 +159,7 @@ beginning count patience = record {
 pub record Shows (story : Story) (w : World) : Type 0 where
   pub client : w.client ≡ story.client
   pub site : w.site ≡ story.site
+  pub waiting : w.waiting ≡ story.waiting
   pub trace : w.trace ≡ story.trace
   pub runs : w.runs ≡ served_in story
   pub server : StandsFor w.server (sessions_after [] story.run)

@@ -12,7 +12,7 @@ ghost use Rattle.fd_netserver.specs.Files.{files_after};
 ghost use Rattle.fd_netserver.specs.Session.{Turn};
 ghost use Rattle.fd_netserver.specs.History.{AreServerRuns, all_turns, entries_in};
 ghost use Rattle.fd_networld.specs.Delivery.{IsSendable, IsCarried, IsDelivered};
-ghost use Rattle.fd_networld.specs.Lawful.{IsLawful, IsServed};
+ghost use Rattle.fd_networld.specs.Lawful.{IsLawful, WasDelivered};
 ghost use Rattle.fd_networld.specs.World.{AreForeign, Follows, Story, beginning};
 ghost use Rattle.fd_networld.specs.declared.event.Event.{Event};
 
@@ -34,6 +34,6 @@ pub fn a_done_client_was_served()
 pub fn each_world_is_lawful()
     ensures lawful { (dump : List ℕ) (h : Header) (patience : Patience) → 1 ≤ patience.polls → (events : List Event) → AreForeign events
         → (story : Story) → Follows dump h (beginning (chunks dump) patience) events story → IsLawful dump h patience story }
-    ensures served { (dump : List ℕ) (h : Header) (patience : Patience) → IsSendable dump h → 1 ≤ patience.polls → (events : List Event) → AreForeign events
-        → (story : Story) → Follows dump h (beginning (chunks dump) patience) events story → IsServed dump h story }
+    ensures delivered { (dump : List ℕ) (h : Header) (patience : Patience) → IsSendable dump h → 1 ≤ patience.polls → (events : List Event) → AreForeign events
+        → (story : Story) → Follows dump h (beginning (chunks dump) patience) events story → WasDelivered dump h story }
 {}

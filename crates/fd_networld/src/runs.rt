@@ -75,9 +75,9 @@ pub struct Runs {
 
 impl Model for Runs {
     ghost use Rattle.std.specs.Prelude.{◌≡◌};
-    ghost use Rattle.fd_networld.specs.Sent.{Served, all_answers};
+    ghost use Rattle.fd_networld.specs.Sent.{AllRuns, all_answers};
 
-    ghost Value = { Served };
+    ghost Value = { AllRuns };
 
     ghost view = { λ r. record { earlier = r.earlier.items; run = r.run } };
 

@@ -1,28 +1,37 @@
 //! What an event makes of a world.
 
-ghost use Rattle.std.specs.Prelude.{◌≡◌, ◌≤◌, ◌^◌, IfOk, OnOk, slice_get, Some};
+ghost use Rattle.std.specs.Prelude.{◌≡◌, ◌⊎◌, ◌+◌, ◌≤◌, ◌^◌, IfOk, List, OnOk, slice_get, Some};
 ghost use Rattle.fd_fake.specs.Disk.{file_now};
 ghost use Rattle.fd_kdh.specs.Header.{FitsFields};
 ghost use Rattle.fd_netclient.specs.Client.{IsPatient, patience_of};
 ghost use Rattle.fd_netclient.specs.Machine.{port_of, want_of};
-ghost use Rattle.fd_netserver.specs.Stands.{AreThere};
+ghost use Rattle.fd_fake.specs.MemSite.{seen_of};
+ghost use Rattle.fd_netserver.specs.History.{IsTurn};
+ghost use Rattle.fd_netserver.specs.Session.{Session, after_reply};
+ghost use Rattle.fd_netserver.specs.Stands.{IsBrokenAt, StandsFor, TurnOf};
+ghost use Rattle.fd_netserver.specs.declared.reply.Reply.TheVariants.{Ignored};
+ghost use Rattle.fd_netserver.specs.declared.reply.Skip.TheVariants as skip;
+ghost use Rattle.fd_site.specs.Contents.{Adds, Told, file_of};
 ghost use Rattle.fd_site.specs.Trace.{Silent};
+ghost use Rattle.fd_networld.specs.Watched.{one_if};
 ghost use Rattle.fd_networld.specs.Sent.{all_answers, client_peer, sent_in};
-ghost use Rattle.fd_networld.specs.Steps.{HasFiles, HasTaken, IsChunked, IsNow, gone};
+ghost use Rattle.fd_networld.specs.Steps.{HasCalm, HasFiles, HasTaken, IsChunked, IsNow, gone};
 ghost use Rattle.fd_networld.specs.World.{Begins, Shows, Story, WillFail, answering, arriving, beginning, hearing, sending, step_of};
 
 use crate::datagram::put_datagram;
 use crate::event::{Bytes, Event};
 use crate::runs::{Exchange, Runs};
 use crate::trace::Trace;
+use crate::watched::Watched;
 use crate::world::World;
 use fd_fake::{LinkEvent, MemSite};
 use fd_kdh::Header;
 use fd_netclient::{Client, Limits, Want};
 use fd_netmsg::put_ack;
-use fd_netserver::Server;
+use fd_netserver::{Reply, Server};
 use fd_site::Peer;
 use std::alloc::{AllocError, Global};
+use std::mem;
 
 // Where the client's datagrams come from: port 20024 of 127.0.0.1.
 const CLIENT: Peer = Peer {
@@ -32,6 +41,9 @@ const CLIENT: Peer = Peer {
 
 // The port of slot 0; slot k has the k-th after it.
 const FIRST_PORT: u16 = 40000;
+
+// The last slot; the first one is the herald's.
+const LAST_SLOT: u16 = 16;
 
 impl World {
     /// Before any event, for a dump of so many chunks.
@@ -47,6 +59,7 @@ impl World {
             client: Client::new(chunks, limits),
             server: Server::new(alloc),
             site,
+            waiting: false,
             trace: Trace::new(alloc),
             runs: Runs::new(alloc),
         })
@@ -109,15 +122,60 @@ impl World {
         }
     }
 
-    // The server takes a datagram.
-    fn take(&mut self, slot: u16, peer: Peer, bytes: Vec<u8>) -> Result<(), AllocError>
+    // The server takes a datagram, over a site of which at most so many calls fail. Want of memory that the site met is
+    // answered too.
+    fn take_watched<const MOST: usize>(
+        &mut self,
+        alloc: Global,
+        slot: u16,
+        peer: Peer,
+        bytes: &[u8],
+    ) -> Result<Reply, AllocError>
         requires there { HasFiles self.old }
-        ensures taken { OnOk result (HasTaken (record { slot = slot; peer = peer; bytes = bytes.items }) self.old self.new) }
+        requires calm { HasCalm self.old }
+        requires most { one_if self.old.waiting ≤ MOST }
+        requires one { one_if self.old.waiting ≤ 1 }
+        ensures others { self.new ≡ record self.old { server = self.new.server; site = self.new.site; waiting = self.new.waiting } }
+        ensures turn { IfOk result (λ reply. (ss : List Session) → StandsFor self.old.server ss → Adds (λ es. Told (seen_of self.old.site).told (λ c. IsTurn ss (file_of c) (TurnOf (record { slot = slot; peer = peer; bytes = bytes.now }) reply es))) (seen_of self.old.site).told (seen_of self.new.site).told) }
+        ensures stands { IfOk result (λ reply. (ss : List Session) → StandsFor self.old.server ss → StandsFor self.new.server (after_reply ss (record { slot = slot; peer = peer; bytes = bytes.now }) reply)) }
+        ensures block { OnOk result (self.new.site.block ≡ self.old.site.block) }
+        ensures calm { OnOk result (HasCalm self.new) }
+        ensures few { OnOk result (one_if self.new.waiting ≤ MOST) }
+        ensures cause { IfOk result (λ reply. reply ≡ Ignored skip.Broken → (1 + one_if self.new.waiting ≤ MOST) ⊎ IsBrokenAt self.old.server slot) }
+        ensures fed { OnOk result (self.new.site.calls.starved ≡ 0) }
     {
-        let reply = self.server.take(&mut self.site, slot, peer, &bytes)?;
+        let spare = MemSite::new(alloc, 0, 512, Vec::new(alloc))?;
+        let mut watched = Watched::<MOST> {
+            site: mem::replace(&mut self.site, spare),
+            waiting: self.waiting,
+            failed: false,
+        };
+        let reply = self.server.take(&mut watched, slot, peer, bytes)?;
+        self.waiting = watched.waiting;
+        self.site = watched.site;
         if self.site.starved() > 0 {
             return Err(AllocError);
         }
+        Ok(reply)
+    }
+
+    // The server takes a datagram.
+    fn take(
+        &mut self,
+        alloc: Global,
+        slot: u16,
+        peer: Peer,
+        bytes: Vec<u8>,
+    ) -> Result<(), AllocError>
+        requires there { HasFiles self.old }
+        requires calm { HasCalm self.old }
+        ensures taken { OnOk result (HasTaken (record { slot = slot; peer = peer; bytes = bytes.items }) self.old self.new) }
+    {
+        let reply = if self.waiting {
+            self.take_watched::<1>(alloc, slot, peer, &bytes)?
+        } else {
+            self.take_watched::<0>(alloc, slot, peer, &bytes)?
+        };
         self.runs.note(Exchange {
             slot,
             peer,
@@ -127,26 +185,34 @@ impl World {
     }
 
     // A datagram comes to a slot.
-    fn deliver(&mut self, slot: u16, peer: Peer, bytes: Vec<u8>) -> Result<(), AllocError>
+    fn deliver(
+        &mut self,
+        alloc: Global,
+        slot: u16,
+        peer: Peer,
+        bytes: Vec<u8>,
+    ) -> Result<(), AllocError>
         requires there { HasFiles self.old }
+        requires calm { HasCalm self.old }
         ensures now { (story : Story) → Shows story self.old → OnOk result (IsNow (arriving slot peer (Some bytes.items)) story self.new) }
     {
-        if slot > 16 {
+        if slot > LAST_SLOT {
             return Ok(());
         }
-        self.take(slot, peer, bytes)
+        self.take(alloc, slot, peer, bytes)
     }
 
     // A datagram that the client sent comes to a slot.
     fn arrive(&mut self, alloc: Global, slot: u16, nth: u64) -> Result<(), AllocError>
         requires there { HasFiles self.old }
+        requires calm { HasCalm self.old }
         ensures now { (story : Story) → Shows story self.old → OnOk result (IsNow (arriving slot client_peer (slice_get (sent_in story.trace) nth)) story self.new) }
     {
         let Some(sent) = self.trace.sent(nth) else {
             return Ok(());
         };
         let bytes = sent.to_vec(alloc)?;
-        self.deliver(slot, CLIENT, bytes)
+        self.deliver(alloc, slot, CLIENT, bytes)
     }
 
     // A datagram of anyone comes to a slot.
@@ -158,10 +224,11 @@ impl World {
         bytes: &Bytes,
     ) -> Result<(), AllocError>
         requires there { HasFiles self.old }
+        requires calm { HasCalm self.old }
         ensures now { (story : Story) → Shows story self.old → OnOk result (IsNow (arriving slot peer (Some bytes.now)) story self.new) }
     {
         let copy = bytes.as_slice().to_vec(alloc)?;
-        self.deliver(slot, peer, copy)
+        self.deliver(alloc, slot, peer, copy)
     }
 
     // The server is started anew.
@@ -184,6 +251,7 @@ impl World {
         requires dump { IsChunked dump.now }
         requires header { FitsFields header.now }
         requires there { HasFiles self.old }
+        requires calm { HasCalm self.old }
         ensures now { (story : Story) → Shows story self.old → OnOk result (IsNow (step_of dump.now header.now story event.now) story self.new) }
     {
         match event {
@@ -195,6 +263,7 @@ impl World {
             Event::ServerSilent => Ok(()),
             Event::SiteFails => {
                 self.site.fail_next();
+                self.waiting = true;
                 Ok(())
             }
             Event::Restart => self.restart(alloc),

@@ -13,6 +13,8 @@ pub struct World {
     pub client: Client,
     pub server: Server,
     pub site: MemSite,
+    /// Whether the site's next call is to fail.
+    pub waiting: bool,
     pub trace: Trace,
     pub runs: Runs,
 }

@@ -3,5 +3,5 @@ use Rattle.fd_networld.proofs.world.World.deliver.Goals as goal
 
 pub returns : goal.returns
 returns c = record {
-  now = λ story shows. on_ok c.take.result _ _ c.take.ensures.taken (delivers_now story c.args.self.now shows c.args.slot c.args.peer c.args.bytes.items c.take.new.self c.if-slot-gt16.false);
+  now = λ story shows. on_ok c.take.result _ _ c.take.ensures.taken (delivers_now story c.args.self.now shows c.args.slot c.args.peer c.args.bytes.items c.take.new.self c.if-slot-gt-LAST_SLOT.false);
 }

@@ -1,4 +1,4 @@
-use Rattle.std.proofs.Common.{sym, ap, subst}
+use Rattle.std.proofs.Common.{true, sym, ap, subst}
 use Rattle.fd_fake.specs.MemSite.{SiteInMemory}
 use Rattle.fd_site.specs.Trace.{Silent}
 use Rattle.fd_networld.specs.Steps.{IsNow}
@@ -31,8 +31,8 @@ returns-in-ClientSilent c = record {
 
 pub returns-in-SiteFails : goal.returns-in-SiteFails
 returns-in-SiteFails c =
-    let now : World = record c.args.self.now { site = c.fail_next.new.self } in
+    let now : World = record c.args.self.now { site = c.fail_next.new.self; waiting = true } in
     record {
       now = λ story shows. subst (λ (e : Event). IsNow (step_of c.args.dump.now c.args.header.now story e) story now) (sym c.in-SiteFails.is)
-          (fails_now story c.args.self.now shows now (ap (λ (m : SiteInMemory). record c.args.self.now { site = m }) c.fail_next.ensures));
+          (fails_now story c.args.self.now shows now (ap (λ (m : SiteInMemory). record c.args.self.now { site = m; waiting = true }) c.fail_next.ensures));
     }
