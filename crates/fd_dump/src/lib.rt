@@ -4,6 +4,8 @@
 
 mod dumped;
 mod header_page;
+#[cfg(test)]
+mod limit_tests;
 mod memory;
 mod pages;
 mod plan;
