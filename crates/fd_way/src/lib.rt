@@ -10,6 +10,8 @@ mod print;
 mod print_fault;
 mod savecore;
 mod saved_file;
+#[cfg(test)]
+mod tests;
 mod text;
 mod way_fault;
 
