@@ -20,7 +20,7 @@ use Rattle.fd_save.specs.Saving.{clearing, device_name, parity_of}
 use Rattle.fd_mini.specs.Kernel.{KernelBytes}
 use Rattle.fd_vmcore.specs.declared.open.OpenFault.{OpenFault}
 use Rattle.fd_way.specs.Drill as drill
-use Rattle.fd_way.specs.Drill.{Does, Drill, IsDumped, IsSaved, Outcome, Refused, Saved}
+use Rattle.fd_way.specs.Drill.{Does, Drill, IsDumped, EndsSaved, Outcome, Refused, Saved}
 use Rattle.fd_way.specs.Laws.{EndsOverClear, IsDecided, sectors_needed}
 use Rattle.fd_way.proofs.Decided.{stop_decides}
 use Rattle.fd_way.proofs.LastSectors.{below_or_from}
@@ -45,7 +45,7 @@ module _ (reading : ReadingLaw) (saving : SavedLaw) (d : Drill) (found : Seen) (
   behind : (dump : List Entry) → (drill.after found dump).told ≡ Some (then_adds c dump)
   behind dump = told_after reading d found c told sized valid good clear dump
 
-  refused_ends : (why : Why) (added : List Entry) → drill.IsRefused d found why added → d.stop < sectors_needed d.image found.block
+  refused_ends : (why : Why) (added : List Entry) → drill.EndsRefused d found why added → d.stop < sectors_needed d.image found.block
   refused_ends why added does = elim (below_or_from d.stop (sectors_needed d.image found.block)) [
     | inl few ↦ few
     | inr enough ↦
@@ -53,7 +53,7 @@ module _ (reading : ReadingLaw) (saving : SavedLaw) (d : Drill) (found : Seen) (
         absurd (found_and_refused (part_of (then_adds c added)) found.block _ _ _ why this.verdict (does.judged (then_adds c added) (behind added)))
   ]
 
-  enough_of : (number len : ℕ) (given : Result KernelBytes OpenFault) (added : List Entry) → IsSaved d found number len given added → sectors_needed d.image found.block ≤ d.stop
+  enough_of : (number len : ℕ) (given : Result KernelBytes OpenFault) (added : List Entry) → EndsSaved d found number len given added → sectors_needed d.image found.block ≤ d.stop
   enough_of number len given added s = elim (below_or_from d.stop (sectors_needed d.image found.block)) [
     | inl few ↦
         let refused : IsRefused found.block (part_of (then_adds c s.dump)) = (decided s.dump s.dumped).refused few in
@@ -62,7 +62,7 @@ module _ (reading : ReadingLaw) (saving : SavedLaw) (d : Drill) (found : Seen) (
     | inr enough ↦ enough
   ]
 
-  files_of : (number len : ℕ) (given : Result KernelBytes OpenFault) (added : List Entry) (s : IsSaved d found number len given added) → IsOfImage d found.block number len given s.saved s.body
+  files_of : (number len : ℕ) (given : Result KernelBytes OpenFault) (added : List Entry) (s : EndsSaved d found number len given added) → IsOfImage d found.block number len given s.saved s.body
       → info.IsSaved (then_adds c added) number (minidump_of d.image) (header_of d.image found.block) device_name (parity_of (dump_header (header_of d.image found.block)))
   files_of number len given added s of =
       let core = s.is_savecore in
