@@ -11,6 +11,8 @@ mod print;
 mod print_fault;
 mod savecore;
 mod saved_file;
+#[cfg(test)]
+mod tests;
 mod text;
 mod way_fault;
 
@@ -18,5 +20,6 @@ pub use pages::{PagesFault, print_pages};
 pub use drilling::drill;
 pub use print::print_read;
 pub use print_fault::PrintFault;
+pub use saved_file::saved_line;
 pub use text::read_text;
 pub use way_fault::{Drilled, WayFault};
