@@ -14,8 +14,8 @@ use Rattle.fd_cli.specs.Reply.{IsReplyOf, Worked, Works, WorksOnSite, text_bytes
 use Rattle.fd_cli.specs.Row.{Blamed, Grew, Kept, Outside, Reach, Row, nothing, only, reach}
 use Rattle.fd_cli.specs.Rows.{no_command_row, row_of}
 use Rattle.fd_cli.specs.declared.answer.Answer.TheVariants.{Refused}
-use Rattle.fd_cli.specs.declared.command.Command.{Command}
-use Rattle.fd_cli.specs.declared.command.Command.TheVariants as command
+use Rattle.fd_words.specs.declared.command.Command.{Command}
+use Rattle.fd_words.specs.declared.command.Command.TheVariants as command
 use Rattle.fd_cli.specs.declared.refusal.Refusal.TheVariants.{NotCommand}
 use Rattle.fd_cli.specs.declared.reply.Reply.{Reply}
 use Rattle.fd_cli.specs.declared.reply.Trouble.{Trouble}

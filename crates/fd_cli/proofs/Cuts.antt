@@ -25,7 +25,7 @@ use Rattle.fd_cli.specs.Rows.Common.{OnGood}
 use Rattle.fd_cli.specs.Rows.Dump.{MayHaveBegun, Names, dump_row}
 use Rattle.fd_cli.specs.Rows.Judge.{Judges, verdict_answer}
 use Rattle.fd_cli.specs.declared.answer.Answer.TheVariants.{Dump}
-use Rattle.fd_cli.specs.declared.source.Source.{Source}
+use Rattle.fd_words.specs.declared.source.Source.{Source}
 use Rattle.fd_cli.proofs.Dumps.{image_of}
 use Rattle.fd_cli.proofs.Outcomes.{IsWhole, whole_of_zero}
 

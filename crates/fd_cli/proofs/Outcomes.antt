@@ -15,7 +15,7 @@ use Rattle.fd_cli.specs.Rows.Dump.{ByImage, Dumps, DumpsSource, IsGiven, dump_ro
 use Rattle.fd_cli.specs.Rows.Judge.{Judges}
 use Rattle.fd_cli.specs.declared.refusal.Refusal.{Refusal}
 use Rattle.fd_cli.specs.declared.refusal.Refusal.TheVariants.{Judged, Address, NoFile, NotImage, BadImage, NoRoom, Partition, Mini, Short, BadAvail, NotCommand, NoNumber}
-use Rattle.fd_cli.specs.declared.source.Source.{Source}
+use Rattle.fd_words.specs.declared.source.Source.{Source}
 use Rattle.fd_cli.proofs.Good.{either}
 
 -- what is refused adds nothing

@@ -24,10 +24,10 @@ use Rattle.fd_cli.specs.Rows.Judge.{judge_row}
 use Rattle.fd_cli.specs.Rows.Read.{bytes_answer, read_row}
 use Rattle.fd_cli.specs.Rows.Save.{save_row}
 use Rattle.fd_cli.specs.declared.answer.Answer.TheVariants.{Dump, Saved}
-use Rattle.fd_cli.specs.declared.command.Command.{Command}
+use Rattle.fd_words.specs.declared.command.Command.{Command}
 use Rattle.fd_cli.specs.declared.refusal.Refusal.{Refusal}
 use Rattle.fd_cli.specs.declared.refusal.Refusal.TheVariants.{Judged}
-use Rattle.fd_cli.specs.declared.source.Source.{Source}
+use Rattle.fd_words.specs.declared.source.Source.{Source}
 
 -- whatever a row's work was, it left what the row may leave; and it may end without a word
 pub record IsSound (row : Row) : Type 0 where

@@ -1,4 +1,3 @@
-pub mod Command
 pub mod Crash
 pub mod Ending
 pub mod Invocation
@@ -7,5 +6,3 @@ pub mod Refusal
 pub mod Reply
 pub mod Row
 pub mod Rows
-pub mod Savecore
-pub mod Source

@@ -8,19 +8,19 @@ ghost use Rattle.fd_imgfile.specs.declared.fault.ImageFault.TheVariants.{SiteFau
 ghost use Rattle.fd_part.specs.Partition.{is_good};
 ghost use Rattle.fd_cli.specs.Reply.{IsReplyOf, WorksOnSite};
 ghost use Rattle.fd_cli.specs.Rows.Dump.{dump_row, image_dump_row, IsGiven, RefusesImage};
-ghost use Rattle.fd_cli.specs.Source.{HasGoodName};
+ghost use Rattle.fd_words.specs.Source.{HasGoodName};
 ghost use Rattle.fd_cli.specs.declared.answer.Answer.TheVariants.{Refused};
 
 use crate::answer::Answer;
 use crate::refusal::Refusal;
 use crate::reply::{Reply, Trouble};
-use crate::source::Source;
 use fd_dump::Plan;
 use fd_gen::make;
 use fd_image::Image;
 use fd_imgfile::{ImageFault, read_image};
 use fd_part::{BadPartition, PartFault, good_partition, write_dump};
 use fd_site::Site;
+use fd_words::Source;
 use std::alloc::{AllocError, Global};
 
 // The reply to something that is refused.

@@ -3,7 +3,7 @@
 ghost use Rattle.std.specs.Prelude.{Option};
 ghost use Rattle.fd_cli.specs.Laws.{ClearedIsRefused, EachCutDumpIsSavedWhole, EachDumpIsSafe, EachSavecoreIsSafe, EachSavedFileIsLeft, IsSound, JudgeFindsDump, OnlyDoneOrFailedAdds, ReadsWhatWasDumped};
 ghost use Rattle.fd_cli.specs.Rows.{row_of};
-ghost use Rattle.fd_cli.specs.declared.command.Command.{Command};
+ghost use Rattle.fd_words.specs.declared.command.Command.{Command};
 
 use fd_save::laws::{each_cut_of_a_save_is_safe, each_save_is_saved, no_saved_file_is_touched};
 use fd_way::laws::each_read_of_a_minidump_is_the_images;

@@ -4,7 +4,6 @@
 #![tactic(auto)]
 
 mod answer;
-mod command;
 mod dump_image;
 mod invocation;
 mod judge_partition;
@@ -15,19 +14,14 @@ mod refusal;
 mod reply;
 mod run;
 mod save_dump;
-mod savecore;
-mod source;
 pub mod status;
 mod text;
-mod word;
 
 pub use answer::Answer;
-pub use command::Command;
+pub use fd_words::{Command, Source, Word};
 pub use invocation::{Invocation, read_invocation};
 pub use refusal::Refusal;
 pub use run::crashway;
-pub use source::Source;
-pub use word::Word;
 
 #[cfg(test)]
 mod crowded_tests;

@@ -13,11 +13,11 @@ ghost use Rattle.fd_vmcore.specs.declared.open.OpenFault.TheVariants.{SiteFault}
 use crate::answer::Answer;
 use crate::refusal::Refusal;
 use crate::reply::Trouble;
-use crate::word::Word;
 use fd_image::Sequence;
 use fd_kvm::{Kvm, ReadFault};
 use fd_site::Site;
 use fd_vmcore::OpenFault;
+use fd_words::Word;
 use std::alloc::Global;
 
 // The answer to a vmcore that isn't opened.

@@ -5,7 +5,7 @@ ghost use Rattle.fd_site.specs.Cut.{EachCutOf};
 ghost use Rattle.fd_site.specs.Fault.{Rose};
 ghost use Rattle.fd_site.specs.Name.{is_good_name};
 ghost use Rattle.fd_site.specs.Seen.{Frame};
-ghost use Rattle.fd_cli.specs.Command.{command_of};
+ghost use Rattle.fd_words.specs.Command.{command_of};
 ghost use Rattle.fd_cli.specs.Crash.{IsCutOfDump, IsCutOfSavecore, IsFound, LeavesSavedFiles};
 ghost use Rattle.fd_cli.specs.Ending.{Call, Ends};
 ghost use Rattle.fd_cli.specs.Reply.{Worked, WorksOnSite};
@@ -14,12 +14,11 @@ ghost use Rattle.fd_cli.specs.Rows.{row_of};
 ghost use Rattle.fd_cli.specs.Rows.ImageRead.{image_read_row, OfImage};
 ghost use Rattle.fd_cli.specs.Rows.Judge.{judge_row};
 ghost use Rattle.fd_cli.specs.Rows.Read.{read_row};
-ghost use Rattle.fd_cli.specs.declared.command.Command.TheVariants as command;
-ghost use Rattle.fd_cli.specs.declared.source.Source.{Source};
+ghost use Rattle.fd_words.specs.declared.command.Command.TheVariants as command;
+ghost use Rattle.fd_words.specs.declared.source.Source.{Source};
 ghost use Rattle.fd_save.specs.declared.saved.Options.{Options};
 
 use crate::answer::Answer;
-use crate::command::{Command, read_command};
 use crate::dump_image::dump_image;
 use crate::judge_partition::judge_partition;
 use crate::laws::{each_savecore_is_safe, each_saved_file_is_left};
@@ -29,9 +28,9 @@ use crate::refusal::Refusal;
 use crate::reply::{Reply, Trouble};
 use crate::save_dump::{clear_dump, save_dump};
 use crate::status;
-use crate::word::Word;
 use fd_site::{Link, Ports, Sink, Site, SiteFault};
 use fd_way::laws::each_read_of_a_minidump_is_the_images;
+use fd_words::{Command, Word, read_command};
 use std::alloc::Global;
 
 // The reply to `savecore -C`.

@@ -5,9 +5,9 @@ ghost use Rattle.fd_cli.specs.Ending.{answer_text};
 ghost use Rattle.fd_cli.specs.Reply.{text_bytes};
 ghost use Rattle.fd_cli.specs.declared.answer.Answer.TheVariants.{Made, Saved};
 
-use crate::word::Word;
 use arrayvec::ArrayString;
 use fd_info::vmcore_name;
+use fd_words::Word;
 use itoa::Buffer;
 
 /// A line that is made without memory, so behind a write too.

@@ -22,8 +22,8 @@ use Rattle.fd_cli.specs.declared.reply.Reply.{Reply}
 use Rattle.fd_cli.specs.declared.reply.Trouble.{Trouble}
 use Rattle.fd_cli.specs.declared.refusal.Refusal.{Refusal}
 use Rattle.fd_cli.specs.declared.refusal.Refusal.TheVariants.{NoFile, NotImage, BadImage, NoRoom}
-use Rattle.fd_cli.specs.declared.source.Source.{Source}
-use Rattle.fd_cli.specs.declared.source.Source.TheVariants.{File, Made}
+use Rattle.fd_words.specs.declared.source.Source.{Source}
+use Rattle.fd_words.specs.declared.source.Source.TheVariants.{File, Made}
 
 -- the file of this name spells this image
 pub record IsNamed (c : Contents) (name : List ℕ) (m : MachineImage) : Type 0 where

@@ -1,6 +1,6 @@
 use Rattle.std.proofs.Common.{ap, ◌∙◌}
 use Rattle.fd_site.specs.Trace.{grown}
-use Rattle.fd_cli.specs.Command.{command_of}
+use Rattle.fd_words.specs.Command.{command_of}
 use Rattle.fd_cli.specs.Rows.{row_of}
 use Rattle.fd_cli.proofs.Calls.{answered, by_trouble, failed, starved, unprinted}
 use Rattle.fd_cli.proofs.Sound.{may_be_silent}

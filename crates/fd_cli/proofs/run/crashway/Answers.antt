@@ -1,5 +1,5 @@
 use Rattle.std.proofs.Common.{Some}
-use Rattle.fd_cli.specs.declared.command.Command.TheVariants as command
+use Rattle.fd_words.specs.declared.command.Command.TheVariants as command
 use Rattle.fd_cli.proofs.Calls.{call_by}
 use Rattle.fd_cli.proofs.Cuts.{each_dump_is_safe, found_of_call, left_of}
 use Rattle.fd_cli.proofs.Images.{reads_of_call}

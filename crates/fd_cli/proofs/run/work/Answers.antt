@@ -1,12 +1,12 @@
 use Rattle.std.proofs.Common.{Some, refl, sym, ◌∙◌, ap}
-use Rattle.fd_cli.specs.Command.{command_of}
+use Rattle.fd_words.specs.Command.{command_of}
 use Rattle.fd_cli.specs.Rows.Clear.{clear_row}
 use Rattle.fd_cli.specs.Rows.Dump.{dump_row}
 use Rattle.fd_cli.specs.Rows.Image.{image_row}
 use Rattle.fd_cli.specs.Rows.Judge.{judge_row}
 use Rattle.fd_cli.specs.Rows.Read.{read_row}
 use Rattle.fd_cli.specs.Rows.Save.{save_row}
-use Rattle.fd_cli.specs.declared.command.Command.{Command}
+use Rattle.fd_words.specs.declared.command.Command.{Command}
 use Rattle.fd_cli.proofs.Calls.{not_a_command, starved_at_once, worked_by, worked_on_site}
 use Rattle.fd_cli.proofs.run.work.Goals as goal
 

@@ -1,7 +1,7 @@
 //! Where a machine image comes from, and the word that says so.
 
 ghost use Rattle.std.specs.Prelude.{◌≡◌, IfOk, IfSome};
-ghost use Rattle.fd_cli.specs.Source.{arch_of, HasGoodName, made_of, source_of};
+ghost use Rattle.fd_words.specs.Source.{arch_of, HasGoodName, made_of, source_of};
 
 use crate::word::Word;
 use fd_bytes::{Arch, read_number};
@@ -43,13 +43,13 @@ fn read_made(word: &[u8]) -> Option<Source>
 }
 
 /// The image that a word names: a file's name, or `@ARCH:NUMBER` for the image that is made of a number.
-pub(crate) fn read_source(alloc: Global, word: &Word) -> Result<Option<Source>, AllocError>
+pub(crate) fn read_source(alloc: Global, word: &str) -> Result<Option<Source>, AllocError>
     ensures value { IfOk result (λ source. source ≡ source_of word.now) }
     ensures name { IfOk result (λ source. IfSome source HasGoodName) }
 {
-    if !good_name(word.as_str()) {
-        return Ok(read_made(word.as_str().as_bytes()));
+    if !good_name(word) {
+        return Ok(read_made(word.as_bytes()));
     }
-    let name = word.copy(alloc)?;
+    let name = Word::of(alloc, word)?;
     Ok(Some(Source::File(name)))
 }

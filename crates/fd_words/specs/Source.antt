@@ -5,8 +5,8 @@ use Rattle.fd_bytes.specs.Number.{number_of}
 use Rattle.fd_bytes.specs.declared.arch.Arch.{Arch}
 use Rattle.fd_bytes.specs.declared.arch.Arch.TheVariants.{Amd64, Arm64, Riscv}
 use Rattle.fd_site.specs.Name.{is_good_name}
-use Rattle.fd_cli.specs.declared.source.Source.{Source}
-use Rattle.fd_cli.specs.declared.source.Source.TheVariants.{File, Made}
+use Rattle.fd_words.specs.declared.source.Source.{Source}
+use Rattle.fd_words.specs.declared.source.Source.TheVariants.{File, Made}
 
 -- the architecture that a word names
 abbrev pub arch_of : List ℕ → Option Arch

@@ -1,0 +1,5 @@
+pub mod Command
+pub mod CommandLine
+pub mod Given
+pub mod Savecore
+pub mod Source
