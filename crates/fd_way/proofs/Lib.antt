@@ -8,6 +8,7 @@ mod Located
 mod Opening
 mod PageStarts
 mod Pieces
+mod Printing
 pub mod SameReads
 mod TableEntries
 mod Translated

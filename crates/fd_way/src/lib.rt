@@ -3,6 +3,10 @@
 #![tactic(auto)]
 
 pub mod laws;
+mod print;
+mod print_fault;
 mod text;
 
+pub use print::print_read;
+pub use print_fault::PrintFault;
 pub use text::read_text;
