@@ -22,22 +22,3 @@ pub use fd_words::{Command, Source, Word};
 pub use invocation::{Invocation, read_invocation};
 pub use refusal::Refusal;
 pub use run::crashway;
-
-#[cfg(test)]
-mod crowded_tests;
-#[cfg(test)]
-mod dump_tests;
-#[cfg(test)]
-mod image_files;
-#[cfg(test)]
-mod image_tests;
-#[cfg(test)]
-mod read_tests;
-#[cfg(test)]
-mod save_tests;
-#[cfg(test)]
-mod table_tests;
-#[cfg(test)]
-mod tests;
-#[cfg(test)]
-mod version_tests;

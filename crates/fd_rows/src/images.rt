@@ -1,6 +1,6 @@
 //! Images that are made of a number, written to files and dumped, over partitions and files in memory.
 
-use crate::tests::{check, failing_partition, partition, read_sectors};
+use crate::partitions::{check, failing_partition, partition, read_sectors};
 use fd_fake::MemSite;
 use fd_site::Site;
 use std::alloc::Global;

@@ -2,9 +2,11 @@
 
 ghost use Rattle.std.specs.Prelude.{◌≡◌, [], IfOk};
 
-use crate::dump_tests::with_image;
+use crate::dumps::with_image;
 use crate::image_files::riscv_image;
-use crate::tests::{check, failing_partition, header, not_a_command, partition, preset_headers};
+use crate::partitions::{
+    check, failing_partition, header, not_a_command, partition, preset_headers,
+};
 use fd_fake::MemSite;
 use fd_kdh::encode;
 use fd_site::{Site, good_name};

@@ -3,7 +3,7 @@
 ghost use Rattle.std.specs.Prelude.{None};
 ghost use Rattle.fd_site.specs.Contents.{nothing_told};
 
-use crate::tests::{check, header};
+use crate::partitions::{check, header};
 use fd_kdh::encode;
 use fd_site::{Failed, Site};
 use std::alloc::Global;

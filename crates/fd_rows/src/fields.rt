@@ -1,10 +1,10 @@
 //! Files that are cut at each section's first and last byte, and with the greatest number in each field: the image of
 //! riscv and its minidump.
 
-use crate::dump_tests::{refuses, with_image};
+use crate::dumps::{refuses, with_image};
 use crate::image_files::riscv_image;
-use crate::read_tests::{refuses_cut, riscv_vmcore, with_vmcore};
-use crate::tests::check;
+use crate::partitions::check;
+use crate::reads::{refuses_cut, riscv_vmcore, with_vmcore};
 use std::alloc::Global;
 use std::process::Abort;
 use std::test::Fail;

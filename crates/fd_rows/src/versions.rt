@@ -1,8 +1,8 @@
 //! Older minidumps, and page tables of four levels of riscv, over partitions and files in memory.
 
-use crate::dump_tests::refuses;
+use crate::dumps::refuses;
 use crate::image_files::{put_at, sv48_image};
-use crate::read_tests::{minidump, reads, riscv_vmcore, with_vmcore};
+use crate::reads::{minidump, reads, riscv_vmcore, with_vmcore};
 use std::alloc::Global;
 use std::process::Abort;
 use std::test::Fail;

@@ -1,0 +1,24 @@
+//! The rows that the program is worked through by: words, what is printed, the status and what stands afterwards, over
+//! the outside in memory. There is nothing here but tests; what all words do is in the contract of `crashway`.
+#![tactic(auto)]
+
+#[cfg(test)]
+mod crowded;
+#[cfg(test)]
+mod dumps;
+#[cfg(test)]
+mod fields;
+#[cfg(test)]
+mod image_files;
+#[cfg(test)]
+mod images;
+#[cfg(test)]
+mod partitions;
+#[cfg(test)]
+mod reads;
+#[cfg(test)]
+mod saves;
+#[cfg(test)]
+mod verdicts;
+#[cfg(test)]
+mod versions;
