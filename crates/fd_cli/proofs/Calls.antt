@@ -10,7 +10,7 @@ use Rattle.fd_site.specs.Seen.{Frame, Seen, Watched}
 use Rattle.fd_site.specs.Trace.{LinkEvent, PortsEvent, grown}
 use Rattle.fd_site.proofs.Told.{grown-nil, with_entries-nil}
 use Rattle.fd_cli.specs.Ending.{Call}
-use Rattle.fd_cli.specs.Reply.{IsReplyOf, Worked, Works, WorksOnSite, text_bytes}
+use Rattle.fd_cli.specs.Reply.{IsReplyOf, Worked, Works, WorksOnSite, text_bytes, trouble_status}
 use Rattle.fd_cli.specs.Row.{Blamed, Grew, Kept, Outside, Reach, Row, nothing, only, reach}
 use Rattle.fd_cli.specs.Rows.{no_command_row, row_of}
 use Rattle.fd_cli.specs.declared.answer.Answer.TheVariants.{Refused}
@@ -109,17 +109,12 @@ not_a_command r reply is = record {
   cause = λ fault. absurd (cc);
 }
 
--- the work of words that are this command
-pub worked_by : (command this : Option Command) (old new : Reach) (result : Result Reply Trouble) → command ≡ this → Worked (row_of this) old new result
-    → Worked (row_of command) old new result
-worked_by command this old new result is worked = subst (λ c. Worked (row_of c) old new result) (sym is) worked
-
--- by what ended the work
-pub by_trouble : (row : Row) (old new : Reach) (trouble this : Trouble) → trouble ≡ this → Worked row old new (Err trouble) → Worked row old new (Err this)
-by_trouble row old new trouble this is worked = subst (λ t. Worked row old new (Err t)) is worked
+-- by the reply that was given
+pub by_reply : (row : Row) (old new : Reach) (result this : Result Reply Trouble) → result ≡ this → Worked row old new result → Worked row old new this
+by_reply row old new result this is worked = subst (λ r. Worked row old new r) is worked
 
 -- a fault ended the work, before a word was printed
-pub failed : (row : Row) (old : Outside) (new : Reach) → row.Says old.reach.site [] → Worked row old.reach new (Err Fault)
+failed : (row : Row) (old : Outside) (new : Reach) → row.Says old.reach.site [] → Worked row old.reach new (Err Fault)
     → Call row old (record { reach = new; sink = old.sink }) 74
 failed row old new silent worked = record {
   ends = inr (inr (inl (record {
@@ -153,6 +148,16 @@ starved row old new silent worked = record {
   sink = stays old.sink.faults;
 }
 
+-- the work ended without a reply
+ended : (row : Row) (old : Outside) (new : Reach) (trouble : Trouble) → row.Says old.reach.site [] → Worked row old.reach new (Err trouble)
+    → Call row old (record { reach = new; sink = old.sink }) (trouble_status trouble)
+ended row old new Fault silent worked = failed row old new silent worked
+ended row old new NoMemory silent worked = starved row old new silent worked
+
+pub ended_so : (row : Row) (old : Outside) (new : Reach) (trouble : Trouble) (status : ℕ) → status ≡ trouble_status trouble → row.Says old.reach.site []
+    → Worked row old.reach new (Err trouble) → Call row old (record { reach = new; sink = old.sink }) status
+ended_so row old new trouble status is silent worked = subst (Call row old (record { reach = new; sink = old.sink })) (sym is) (ended row old new trouble silent worked)
+
 -- the reply was printed
 pub answered : (row : Row) (old new : Outside) (reply : Reply) → Worked row old.reach new.reach (Ok reply)
     → new.sink.told ≡ grown old.sink.told (text_bytes reply.text) → old.sink.faults ≤ new.sink.faults → Call row old new reply.status
@@ -185,6 +190,11 @@ unprinted row old new reply worked bytes text_is text count rose = record {
   kept = worked.kept;
   sink = count;
 }
+
+-- a call of this command is one of words that are it
+pub called_by : (command this : Option Command) (old new : Outside) (status : ℕ) → command ≡ this → Call (row_of this) old new status
+    → Call (row_of command) old new status
+called_by command this old new status is call = subst (λ c. Call (row_of c) old new status) (sym is) call
 
 -- the call of words that are this command
 pub call_by : (command this : Option Command) (old new : Outside) (status : ℕ) → command ≡ this → Call (row_of command) old new status

@@ -2,11 +2,12 @@
 use Rattle.std.specs.Prelude.{◌≡◌, ◌⊎◌, ℕ, ◌+◌, ◌^◌, ◌≤◌, List, [], ◌∷◌, ◌++◌, length, take, codes}
 use Rattle.std.specs.Fmt.{decimal}
 use Rattle.fd_site.specs.Fault.{Rose}
-use Rattle.fd_site.specs.Trace.{grown}
+use Rattle.fd_site.specs.Seen.{Seen, Watched}
+use Rattle.fd_site.specs.Trace.{LinkEvent, PortsEvent, grown}
 use Rattle.fd_info.specs.Name.{vmcore_name}
 use Rattle.fd_way.specs.ReadText.{read_text}
 use Rattle.fd_cli.specs.Refusal.{line_of, status_of}
-use Rattle.fd_cli.specs.Row.{Added, FaultRose, Grew, Kept, Outside, Row, Work}
+use Rattle.fd_cli.specs.Row.{Added, FaultRose, Grew, Kept, Outside, Row, Work, outside}
 use Rattle.fd_cli.specs.declared.answer.Answer.{Answer}
 use Rattle.fd_cli.specs.declared.answer.Answer.TheVariants.{Made, Dump, Dumped, Cleared, Saved, Read, Refused}
 
@@ -82,6 +83,11 @@ pub record Call (row : Row) (old new : Outside) (status : ℕ) : Type 0 where
   pub ends : Ends row old new status
   pub kept : Kept row.blames old.reach new.reach
   pub sink : old.sink.faults ≤ new.sink.faults
+
+-- a call of a command that touches neither the link nor the ports
+abbrev pub CallOnSite : Row → (old new : Seen) → (sink printed : Watched ℕ) → ℕ → Type 0
+CallOnSite row old new sink printed status =
+    (link : Watched LinkEvent) → (ports : Watched PortsEvent) → Call row (outside old link ports sink) (outside new link ports printed) status
 
 -- a file's name in it has at most 64 bytes, and the bytes that were read end at 2^64 or below
 abbrev pub IsPrintable : Answer → Type 0

@@ -22,6 +22,11 @@ pub record IsReplyOf (answer : Answer) (reply : Reply) : Type 0 where
   pub status : reply.status ≡ answer_status answer
   pub text : text_bytes reply.text ≡ answer_text answer
 
+-- the status where there is none
+abbrev pub trouble_status : Trouble → ℕ
+trouble_status Fault = 74
+trouble_status NoMemory = 71
+
 -- a row's work was done, and the reply has its answer
 pub record Replies (row : Row) (old new : Reach) (reply : Reply) : Type 0 where
   pub work : Work
