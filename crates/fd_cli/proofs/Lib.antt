@@ -1,3 +1,4 @@
+mod Addresses
 mod Calls
 mod Cleared
 mod Composed
@@ -9,5 +10,6 @@ mod Outcomes
 mod Reading
 mod Refused
 mod Saves
+mod Sendings
 mod Sound
 mod Stopped

@@ -3,6 +3,7 @@
 //! It stands on the dump header of FreeBSD's `sys/kerneldump.h` and answers as savecore(8) does.
 #![tactic(auto)]
 
+mod address;
 mod answer;
 mod command;
 mod dump_image;
@@ -10,6 +11,7 @@ mod invocation;
 mod judge_partition;
 pub mod laws;
 mod make_image;
+mod netdump;
 mod read_memory;
 mod refusal;
 mod reply;

@@ -24,6 +24,7 @@ use crate::dump_image::dump_image;
 use crate::judge_partition::judge_partition;
 use crate::laws::{each_savecore_is_safe, each_saved_file_is_left};
 use crate::make_image::make_image;
+use crate::netdump::send_image;
 use crate::read_memory::read_memory;
 use crate::refusal::Refusal;
 use crate::reply::{Reply, Trouble};
@@ -87,6 +88,7 @@ fn work<S: Site, L: Link, P: Ports>(
         Some(Command::Clear { force }) => clear_dump(alloc, site, force),
         Some(Command::Save { options, keep }) => save_dump(alloc, site, options, keep),
         Some(Command::Dump { image }) => dump_image(alloc, site, &image),
+        Some(Command::Netdump { image, server }) => send_image(alloc, site, link, &image, server),
         Some(
             Command::Read {
                 file,

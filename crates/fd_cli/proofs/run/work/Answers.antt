@@ -4,9 +4,11 @@ use Rattle.fd_cli.specs.Rows.Clear.{clear_row}
 use Rattle.fd_cli.specs.Rows.Dump.{dump_row}
 use Rattle.fd_cli.specs.Rows.Image.{image_row}
 use Rattle.fd_cli.specs.Rows.Judge.{judge_row}
+use Rattle.fd_cli.specs.Rows.Netdump.{netdump_row}
 use Rattle.fd_cli.specs.Rows.Read.{read_row}
 use Rattle.fd_cli.specs.Rows.Save.{save_row}
 use Rattle.fd_cli.specs.declared.command.Command.{Command}
+use Rattle.fd_cli.specs.declared.command.Command.TheVariants as command
 use Rattle.fd_cli.proofs.Calls.{not_a_command, starved_at_once, worked_by, worked_on_site}
 use Rattle.fd_cli.proofs.run.work.Goals as goal
 
@@ -54,6 +56,12 @@ returns-in-Some-Dump g c =
     let done = c.dump_image.ensures in
     worked_by _ _ _ _ _ (sym c.in_ok-read_command.ensures.value ∙ c.in-Some-Dump.is ∙ ap (λ (x : Command). Some x) c.in-Some-Dump.field-0-is)
     (worked_on_site (dump_row c.in-Some-Dump.image) _ _ _ _ _ done.works done.frame done.cause refl)
+
+pub returns-in-Some-Netdump : goal.returns-in-Some-Netdump
+returns-in-Some-Netdump g c =
+    let n = c.in-Some-Netdump in
+    worked_by _ (Some (command.Netdump n.image n.server)) _ _ _ (sym c.in_ok-read_command.ensures.value ∙ n.is ∙ ap (λ (x : Command). Some x) n.field-0-is)
+    (c.send_image.ensures _)
 
 pub returns-in-Some-Read : goal.returns-in-Some-Read
 returns-in-Some-Read g c =
