@@ -90,6 +90,7 @@ starves_at_once (Some (command.Judge force)) found = refl
 starves_at_once (Some (command.Clear force)) found = refl
 starves_at_once (Some (command.Save options keep)) found = refl
 starves_at_once (Some (command.Dump source)) found = refl
+starves_at_once (Some (command.Netdump source server)) found = refl
 starves_at_once (Some (command.Read name va count)) found = refl
 
 pub starved_at_once : (command : Option Command) (r : Reach) (result : Result Reply Trouble) → IsErrAnd result (λ trouble. trouble ≡ NoMemory)

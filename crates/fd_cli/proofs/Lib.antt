@@ -9,5 +9,6 @@ mod Outcomes
 mod Reading
 mod Refused
 mod Saves
+mod Sendings
 mod Sound
 mod Stopped

@@ -9,7 +9,7 @@ use Rattle.fd_way.specs.ReadText.{read_text}
 use Rattle.fd_cli.specs.Refusal.{line_of, status_of}
 use Rattle.fd_cli.specs.Row.{Added, FaultRose, Grew, Kept, Outside, Row, Work, outside}
 use Rattle.fd_cli.specs.declared.answer.Answer.{Answer}
-use Rattle.fd_cli.specs.declared.answer.Answer.TheVariants.{Made, Dump, Dumped, Cleared, Saved, Read, Refused}
+use Rattle.fd_cli.specs.declared.answer.Answer.TheVariants.{Made, Dump, Dumped, Cleared, Saved, Sent, Read, Refused}
 
 -- a line, with its newline
 abbrev pub line : List ℕ → List ℕ
@@ -22,6 +22,7 @@ answer_text (Dump len) = line (codes "dump " ++ decimal len)
 answer_text (Dumped len) = line (codes "dumped " ++ decimal len)
 answer_text Cleared = line (codes "cleared")
 answer_text (Saved number len) = line (codes "saved " ++ (vmcore_name number ++ (codes " " ++ decimal len)))
+answer_text (Sent len last) = line (codes "sent " ++ (decimal len ++ (codes " " ++ decimal last)))
 answer_text (Read address bytes) = read_text address bytes
 answer_text (Refused refusal) = line (line_of refusal)
 
@@ -31,6 +32,7 @@ answer_status (Dump len) = 0
 answer_status (Dumped len) = 0
 answer_status Cleared = 0
 answer_status (Saved number len) = 0
+answer_status (Sent len last) = 0
 answer_status (Read address bytes) = 0
 answer_status (Refused refusal) = status_of refusal
 
@@ -96,5 +98,6 @@ IsPrintable (Dump len) = Unit {0}
 IsPrintable (Dumped len) = Unit {0}
 IsPrintable Cleared = Unit {0}
 IsPrintable (Saved number len) = Unit {0}
+IsPrintable (Sent len last) = Unit {0}
 IsPrintable (Read address bytes) = address + length bytes ≤ 2 ^ 64
 IsPrintable (Refused refusal) = Unit {0}

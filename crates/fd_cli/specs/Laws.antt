@@ -35,6 +35,10 @@ pub record IsSound (row : Row) : Type 0 where
   pub starved : (found : Seen) (added : Added) → row.Starves found added → row.Leaves found added
   pub silent : (found : Seen) → row.Says found []
 
+-- the row of commands that use no network
+abbrev pub IsLocal : Row → Type 0
+IsLocal row = (row.blames.link ≡ false) × (row.blames.ports ≡ false)
+
 -- what a row leaves over what was found, and the site then tells
 pub record Left (row : Row) (found : Seen) (new : Option Contents) : Type 0 where
   pub added : Added
@@ -49,10 +53,10 @@ pub record Refines (found : Seen) (row other : Row) : Type 0 where
   pub says : (text : List ℕ) → row.Says found text → other.Says found text
   pub blames : row.blames ≡ other.blames
 
--- a call of today's commands that ended with another status than 0 or 74 added nothing
+-- a call that uses no network, and ended with another status than 0 or 74, added nothing
 abbrev pub OnlyDoneOrFailedAdds : Type 0
 OnlyDoneOrFailedAdds =
-    (command : Option Command) (old new : Outside) (status : ℕ) → Call (row_of command) old new status
+    (command : Option Command) (old new : Outside) (status : ℕ) → IsLocal (row_of command) → Call (row_of command) old new status
     → (status ≡ 0) ⊎ ((status ≡ 74) ⊎ Grew old.reach new.reach nothing)
 
 -- what a call finds that comes next

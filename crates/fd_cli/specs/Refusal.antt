@@ -10,11 +10,12 @@ use Rattle.fd_part.specs.Printed.{bad_partition_number, bad_partition_text, no_r
 use Rattle.fd_judge.specs.Printed.{why_number, why_text}
 use Rattle.fd_cli.specs.declared.refusal.Refusal.{Refusal}
 use Rattle.fd_cli.specs.declared.refusal.Refusal.TheVariants.{Judged, Address, NoFile, NotImage, BadImage, NoRoom, Partition}
-use Rattle.fd_cli.specs.declared.refusal.Refusal.TheVariants.{Mini, Short, BadAvail, NotCommand, NoNumber}
+use Rattle.fd_cli.specs.declared.refusal.Refusal.TheVariants.{Mini, Short, BadAvail, NotCommand, NoNumber, NoAnswer}
 
 abbrev pub number_of : Refusal → ℕ
 number_of (Judged why) = why_number why
 number_of (Address fault) = address_number fault
+number_of (NoAnswer number) = 31
 number_of NoFile = image_number image.NoFile
 number_of (NotImage place) = image_number (image.NotImage place)
 number_of (BadImage bad) = image_number (image.BadImage bad)
@@ -29,6 +30,7 @@ number_of NoNumber = 62
 abbrev pub text_of : Refusal → List ℕ
 text_of (Judged why) = why_text why
 text_of (Address fault) = address_text fault
+text_of (NoAnswer number) = codes "no answer to " ++ decimal number
 text_of NoFile = image_text image.NoFile
 text_of (NotImage place) = image_text (image.NotImage place)
 text_of (BadImage bad) = image_text (image.BadImage bad)
@@ -48,6 +50,7 @@ line_of r = refused_line (number_of r) (text_of r)
 abbrev pub status_of : Refusal → ℕ
 status_of (Judged why) = 1
 status_of (Address fault) = 1
+status_of (NoAnswer number) = 1
 status_of NoFile = 65
 status_of (NotImage place) = 65
 status_of (BadImage bad) = 65

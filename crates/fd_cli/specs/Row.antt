@@ -38,6 +38,10 @@ nothing = record { entries = []; trace = []; served = [] }
 abbrev pub only : List Entry → Added
 only entries = record { entries = entries; trace = []; served = [] }
 
+-- the events of a link alone
+abbrev pub on_link : List LinkEvent → Added
+on_link trace = record { entries = []; trace = trace; served = [] }
+
 -- what is told grew by this, and by nothing else
 pub record Grew (old new : Reach) (added : Added) : Type 0 where
   pub site : new.site.told ≡ with_entries old.site.told added.entries

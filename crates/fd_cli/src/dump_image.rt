@@ -30,8 +30,8 @@ fn refuse(alloc: Global, refusal: Refusal) -> Result<Reply, AllocError>
     Reply::new(alloc, &Answer::Refused(refusal))
 }
 
-// The reply to an image that wasn't given.
-fn refuse_image(alloc: Global, fault: ImageFault) -> Result<Reply, Trouble>
+/// The reply to an image that wasn't given.
+pub(crate) fn refuse_image(alloc: Global, fault: ImageFault) -> Result<Reply, Trouble>
     ensures answer { RefusesImage fault result }
     ensures cause { IsErrOf result Trouble.Fault → fault ≡ SiteFault }
 {
@@ -77,8 +77,12 @@ fn write_plan<S: Site>(
     }
 }
 
-// The image that a source gives.
-fn take_image<S: Site>(alloc: Global, site: &mut S, source: &Source) -> Result<Image, ImageFault>
+/// The image that a source gives.
+pub(crate) fn take_image<S: Site>(
+    alloc: Global,
+    site: &mut S,
+    source: &Source,
+) -> Result<Image, ImageFault>
     requires { HasGoodName source.now }
     ensures given { IsGiven source.now (S.seen site.old) result }
     ensures untouched { Untouched (S.seen site.old) (S.seen site.new) }

@@ -1,19 +1,19 @@
 //! What follows from the rows of the commands alone.
 
 ghost use Rattle.std.specs.Prelude.{Option};
-ghost use Rattle.fd_cli.specs.Laws.{ClearedIsRefused, EachCutDumpIsSavedWhole, EachDumpIsSafe, EachSavecoreIsSafe, EachSavedFileIsLeft, IsSound, JudgeFindsDump, OnlyDoneOrFailedAdds, ReadsWhatWasDumped};
+ghost use Rattle.fd_cli.specs.Laws.{ClearedIsRefused, EachCutDumpIsSavedWhole, EachDumpIsSafe, EachSavecoreIsSafe, EachSavedFileIsLeft, IsLocal, IsSound, JudgeFindsDump, OnlyDoneOrFailedAdds, ReadsWhatWasDumped};
 ghost use Rattle.fd_cli.specs.Rows.{row_of};
 ghost use Rattle.fd_words.specs.declared.command.Command.{Command};
 
 use fd_save::laws::{each_cut_of_a_save_is_safe, each_save_is_saved, no_saved_file_is_touched};
 use fd_way::laws::each_read_of_a_minidump_is_the_images;
 
-/// However a command ends, what it added is what its row leaves.
+/// However a command ends that uses no network, what it added is what its row leaves.
 pub fn each_row_is_sound()
-    ensures { (command : Option Command) → IsSound (row_of command) }
+    ensures { (command : Option Command) → IsLocal (row_of command) → IsSound (row_of command) }
 {}
 
-/// A call that ended with another status than 0 or 74 added nothing.
+/// A call that uses no network, and ended with another status than 0 or 74, added nothing.
 pub fn only_done_or_failed_calls_add()
     ensures { OnlyDoneOrFailedAdds }
 {}

@@ -9,6 +9,7 @@ mod invocation;
 mod judge_partition;
 pub mod laws;
 mod make_image;
+mod netdump;
 mod print_memory;
 mod print_reply;
 mod refusal;

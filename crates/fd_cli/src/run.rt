@@ -21,6 +21,7 @@ use crate::dump_image::dump_image;
 use crate::judge_partition::judge_partition;
 use crate::laws::{each_savecore_is_safe, each_saved_file_is_left};
 use crate::make_image::make_image;
+use crate::netdump::send_image;
 use crate::print_memory::print_memory;
 use crate::print_reply::print_reply;
 use crate::refusal::Refusal;
@@ -81,6 +82,9 @@ fn carry_out<S: Site, L: Link, P: Ports, O: Sink>(
             print_reply(save_dump(alloc, site, options, keep), out)
         }
         Some(Command::Dump { image }) => print_reply(dump_image(alloc, site, &image), out),
+        Some(Command::Netdump { image, server }) => {
+            print_reply(send_image(alloc, site, link, &image, server), out)
+        }
         Some(
             Command::Read {
                 file,

@@ -3,8 +3,10 @@
 ghost use Rattle.std.specs.Prelude.{◌≡◌, ◌≤◌, length};
 ghost use Rattle.fd_cli.specs.Ending.{answer_text};
 ghost use Rattle.fd_cli.specs.Reply.{text_bytes};
-ghost use Rattle.fd_cli.specs.declared.answer.Answer.TheVariants.{Made, Saved};
+ghost use Rattle.fd_cli.specs.declared.answer.Answer.TheVariants.{Made, Refused, Saved, Sent};
+ghost use Rattle.fd_cli.specs.declared.refusal.Refusal.TheVariants.{NoAnswer};
 
+use crate::refusal::Refusal;
 use arrayvec::ArrayString;
 use fd_info::vmcore_name;
 use fd_words::Word;
@@ -57,6 +59,32 @@ pub(crate) fn saved_line(number: u32, length: u64) -> Line
     line.push_str(vmcore_name(number).as_str());
     line.push_str(" ");
     line.push_str(Buffer::new().format(length));
+    line.push('\n');
+    line
+}
+
+/// The line of a dump that was sent, and of the number of its last message.
+pub(crate) fn sent_line(length: u64, last: u32) -> Line
+    ensures { result.bytes ≡ answer_text (Sent length last) }
+{
+    let mut line = Line::new();
+    line.push_str("sent ");
+    line.push_str(Buffer::new().format(length));
+    line.push_str(" ");
+    line.push_str(Buffer::new().format(last));
+    line.push('\n');
+    line
+}
+
+/// The line of a message that no server acknowledged.
+pub(crate) fn no_answer_line(number: u32) -> Line
+    ensures { result.bytes ≡ answer_text (Refused (NoAnswer number)) }
+{
+    let mut line = Line::new();
+    line.push_str("refused ");
+    line.push_str(Buffer::new().format(Refusal::NoAnswer(number).number()));
+    line.push_str(": no answer to ");
+    line.push_str(Buffer::new().format(number));
     line.push('\n');
     line
 }

@@ -13,9 +13,11 @@ pub mod Own
 mod Pacing
 mod Places
 mod Rows
+pub mod Running
 pub mod Settled
 mod Sound
 mod Standing
 mod Steps
 mod Taking
 mod Turns
+mod Unbroken

@@ -1,5 +1,6 @@
 pub mod Files
 pub mod History
+pub mod Running
 pub mod Serving
 pub mod Session
 pub mod Stands

@@ -60,9 +60,9 @@ fn take_input<P: Ports, S: Site>(
 ) -> Result<(), ServeFault>
     requires noted { length list.old.items ≡ dones server.old }
     requires there { Told (S.seen site.old).told (λ c. AreThere server.old (file_of c)) }
-    ensures ok { OnOk result (GoesOn (S.seen site.old).told (S.seen site.new).told (P.seen ports.old).told (P.seen ports.new).told server.old server.new (record { slot = slot; peer = peer; bytes = bytes.now }) list.old.items list.new.items) }
+    ensures ok { OnOk result (GoesOn (S.seen site.old) (S.seen site.new) (P.seen ports.old).told (P.seen ports.new).told server.old server.new (record { slot = slot; peer = peer; bytes = bytes.now }) list.old.items list.new.items) }
     ensures noted { OnOk result (length list.new.items ≡ dones server.new) }
-    ensures err { IfErr result (BreaksInput (S.seen site.old).told (S.seen site.new).told (P.seen ports.old).told (P.seen ports.new).told server.old (record { slot = slot; peer = peer; bytes = bytes.now }) list.old.items list.new.items) }
+    ensures err { IfErr result (BreaksInput (S.seen site.old) (S.seen site.new) (P.seen ports.old).told (P.seen ports.new).told server.old (record { slot = slot; peer = peer; bytes = bytes.now }) list.old.items list.new.items) }
     ensures frame { Frame (S.seen site.old) (S.seen site.new) }
     ensures count { (P.seen ports.old).faults ≤ (P.seen ports.new).faults }
     ensures cause { IsErrOf result fault.PortsFault → Rose (P.seen ports.old).faults (P.seen ports.new).faults }
@@ -83,9 +83,9 @@ fn take_turn<P: Ports, S: Site>(
 ) -> Result<(), ServeFault>
     requires noted { length list.old.items ≡ dones server.old }
     requires there { Told (S.seen site.old).told (λ c. AreThere server.old (file_of c)) }
-    ensures ok { OnOk result (TurnsOn (S.seen site.old).told (S.seen site.new).told (P.seen ports.old).told (P.seen ports.new).told server.old server.new list.old.items list.new.items) }
+    ensures ok { OnOk result (TurnsOn (S.seen site.old) (S.seen site.new) (P.seen ports.old).told (P.seen ports.new).told server.old server.new list.old.items list.new.items) }
     ensures noted { OnOk result (length list.new.items ≡ dones server.new) }
-    ensures err { IfErr result (BreaksTurn (S.seen site.old).told (S.seen site.new).told (P.seen ports.old).told (P.seen ports.new).told server.old list.old.items list.new.items) }
+    ensures err { IfErr result (BreaksTurn (S.seen site.old) (S.seen site.new) (P.seen ports.old).told (P.seen ports.new).told server.old list.old.items list.new.items) }
     ensures frame { Frame (S.seen site.old) (S.seen site.new) }
     ensures count { (P.seen ports.old).faults ≤ (P.seen ports.new).faults }
     ensures cause { IsErrOf result fault.PortsFault → Rose (P.seen ports.old).faults (P.seen ports.new).faults }
@@ -99,7 +99,8 @@ fn take_turn<P: Ports, S: Site>(
 }
 
 /// Serves until so many dumps are finished, and then as many turns more as it is to linger, or as are left. It answers
-/// `TurnsSpent` where all turns were taken before, and `PortsFault` only where the ports' count of faults rose.
+/// `TurnsSpent` where all turns were taken before, and `PortsFault` only where the ports' count of faults rose. A fault of
+/// the site breaks a session, and never ends serving.
 ///
 /// A turn is one look at the ports, which may bring nothing. What it brings is taken by a server, which is new at the
 /// first turn; each answer but `Ignored` goes from its slot to its peer, and the slot of a new session is opened before.
@@ -113,8 +114,8 @@ pub fn serve<P: Ports, S: Site>(
 ) -> Result<(), ServeFault>
     requires limits { IsServing limits }
     requires empty { served.old.list.items ≡ [] }
-    ensures ok { OnOk result (IsServedTo (EndsDone limits) (S.seen site.old).told (S.seen site.new).told (P.seen ports.old).told (P.seen ports.new).told served.new.list.items) }
-    ensures err { IfErr result (λ why. IsServedTo (EndsBy limits why) (S.seen site.old).told (S.seen site.new).told (P.seen ports.old).told (P.seen ports.new).told served.new.list.items) }
+    ensures ok { OnOk result (IsServedTo (EndsDone limits) (S.seen site.old) (S.seen site.new) (P.seen ports.old).told (P.seen ports.new).told served.new.list.items) }
+    ensures err { IfErr result (λ why. IsServedTo (EndsBy limits why) (S.seen site.old) (S.seen site.new) (P.seen ports.old).told (P.seen ports.new).told served.new.list.items) }
     ensures frame { Frame (S.seen site.old) (S.seen site.new) }
     ensures count { (P.seen ports.old).faults ≤ (P.seen ports.new).faults }
     ensures cause { IsErrOf result fault.PortsFault → Rose (P.seen ports.old).faults (P.seen ports.new).faults }

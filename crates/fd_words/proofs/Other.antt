@@ -1,5 +1,5 @@
 -- No command has another number of values.
-use Rattle.std.proofs.Common.{◌≡◌, ◌<◌, ℕ, List, [], ◌∷◌, length, None, Bor, map, refl, arith}
+use Rattle.std.proofs.Common.{◌≡◌, ◌<◌, ℕ, List, [], ◌∷◌, length, Option, None, Bor, map, refl, arith}
 use Rattle.fd_words.specs.Command.{command_of_values}
 
 abbrev pub texts : List (Bor (List ℕ)) → List (List ℕ)
@@ -8,12 +8,6 @@ texts = map (λ s. s.now)
 pub none_of_no : (name : List ℕ) (values : List (Bor (List ℕ))) → length values < 1 → None ≡ command_of_values name (texts values)
 none_of_no name [] few = refl
 none_of_no name (a ∷ rest) few = absurd (omega arith)
-
-pub none_of_two : (name : List ℕ) (values : List (Bor (List ℕ))) → 1 < length values → length values < 3 → None ≡ command_of_values name (texts values)
-none_of_two name (a ∷ b ∷ []) some few = refl
-none_of_two name [] some few = absurd (omega arith)
-none_of_two name (a ∷ []) some few = absurd (omega arith)
-none_of_two name (a ∷ b ∷ c ∷ rest) some few = absurd (omega arith)
 
 pub none_of_many : (name : List ℕ) (values : List (Bor (List ℕ))) → 3 < length values → None ≡ command_of_values name (texts values)
 none_of_many name (a ∷ b ∷ c ∷ d ∷ rest) many = refl

@@ -1,3 +1,4 @@
+pub mod Address
 pub mod Command
 pub mod CommandLine
 pub mod Given

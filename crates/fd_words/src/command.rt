@@ -40,6 +40,11 @@ pub enum Command {
     Dump {
         image: Source,
     },
+    /// `netdump IMAGE ADDRESS`: send the dump of this image to the server of this IPv4 address.
+    Netdump {
+        image: Source,
+        server: u32,
+    },
     /// `read FILE ADDRESS LENGTH`: print `count` bytes of a vmcore from a kernel address on.
     Read {
         file: Word,

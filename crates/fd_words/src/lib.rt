@@ -4,6 +4,7 @@
 //! have them, and each value is checked.
 #![tactic(auto)]
 
+mod address;
 mod command;
 mod given;
 mod line;

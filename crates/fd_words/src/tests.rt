@@ -56,6 +56,15 @@ image arm64 1 a.img|image 1 1 a.img
 image i386 1 a.img|none
 image amd64 1 a/b|none
 image amd64 1|none
+netdump a.img 127.0.0.1|netdump file a.img 2130706433
+netdump @amd64:1 255.0.010.7|netdump made 0 1 4278192647
+netdump a.img 256.0.0.1|none
+netdump a.img 0001.0.0.1|none
+netdump a.img 1.2.3|none
+netdump a.img 1.2.3.4.5|none
+netdump a.img 1..3.4|none
+netdump a.img 0x1.2.3.4|none
+netdump a.img +1.2.3.4|none
 read k 1 2|read k 1 2
 read k 0xffffffffffffffff 1048576|read k 18446744073709551615 1048576
 read k 18446744073709551616 1|none
@@ -106,6 +115,9 @@ fn tell(alloc: Global, command: &Option<Command>) -> Result<String, Fail> {
         }
         Some(Command::Dump { image }) => {
             format!(in alloc; "dump {}", tell_source(alloc, image)?)?
+        }
+        Some(Command::Netdump { image, server }) => {
+            format!(in alloc; "netdump {} {server}", tell_source(alloc, image)?)?
         }
         Some(Command::Image { arch, number, file }) => {
             format!(in alloc; "image {} {number} {}", place(*arch), file.as_str())?

@@ -3,9 +3,11 @@
 ghost use Rattle.std.specs.Prelude.{◌≡◌, IfOk, map};
 ghost use Rattle.std.specs.Option.{option_map};
 ghost use Rattle.fd_bytes.specs.Number.{number_of};
-ghost use Rattle.fd_words.specs.Command.{command_of_one, command_of_three, command_of_values, HasGoodNames, image_of, read_of};
+ghost use Rattle.fd_words.specs.Address.{address_of};
+ghost use Rattle.fd_words.specs.Command.{command_of_one, command_of_three, command_of_two, command_of_values, HasGoodNames, image_of, netdump_of, read_of};
 ghost use Rattle.fd_words.specs.Source.{arch_of, source_of};
 
+use crate::address::read_address;
 use crate::command::Command;
 use crate::source::{read_arch, read_source};
 use crate::word::Word;
@@ -52,6 +54,21 @@ fn dump_command(alloc: Global, image: &str) -> Result<Option<Command>, AllocErro
     }
 }
 
+// `netdump` of this image to this server.
+fn netdump_command(alloc: Global, image: &str, address: &str) -> Result<Option<Command>, AllocError>
+    ensures value { IfOk result (λ command. command ≡ netdump_of (address_of address.now) (source_of image.now)) }
+    ensures names { IfOk result HasGoodNames }
+{
+    let server = match read_address(address) {
+        Some(server) => server,
+        None => return Ok(None),
+    };
+    match read_source(alloc, image)? {
+        Some(image) => Ok(Some(Command::Netdump { image, server })),
+        None => Ok(None),
+    }
+}
+
 // `read` of this file.
 fn read_command_of(
     alloc: Global,
@@ -92,6 +109,22 @@ fn command_of_one(alloc: Global, name: &str, value: &str) -> Result<Option<Comma
     Ok(None)
 }
 
+// A command of two values.
+fn command_of_two(
+    alloc: Global,
+    name: &str,
+    first: &str,
+    second: &str,
+) -> Result<Option<Command>, AllocError>
+    ensures value { IfOk result (λ command. command ≡ command_of_two name.now first.now second.now) }
+    ensures names { IfOk result HasGoodNames }
+{
+    if name == "netdump" {
+        return netdump_command(alloc, first, second);
+    }
+    Ok(None)
+}
+
 // A command of three values.
 fn command_of_three(
     alloc: Global,
@@ -123,6 +156,7 @@ pub(crate) fn command_of_values(
 {
     match values {
         [value] => command_of_one(alloc, name, *value),
+        [first, second] => command_of_two(alloc, name, *first, *second),
         [first, second, third] => command_of_three(alloc, name, *first, *second, *third),
         _ => Ok(None),
     }

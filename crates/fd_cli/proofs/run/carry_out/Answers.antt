@@ -57,6 +57,12 @@ returns-in-Some-Dump g c =
     called_by _ _ _ _ _ (sym c.in-Ok.ensures.value ∙ i.is ∙ ap (λ (x : Command). Some x) i.field-0-is)
     (c.print_reply-in-Some-Dump.ensures (Some (command.Dump i.image)) _ _ (worked_on_site (dump_row i.image) _ _ _ _ _ done.works done.frame done.cause refl))
 
+pub returns-in-Some-Netdump : goal.returns-in-Some-Netdump
+returns-in-Some-Netdump g c =
+    let i = c.in-Some-Netdump in
+    called_by _ _ _ _ _ (sym c.in-Ok.ensures.value ∙ i.is ∙ ap (λ (x : Command). Some x) i.field-0-is)
+    (c.print_reply-in-Some-Netdump.ensures (Some (command.Netdump i.image i.server)) _ _ (c.send_image.ensures _))
+
 pub returns-in-Some-Read : goal.returns-in-Some-Read
 returns-in-Some-Read g c =
     let i = c.in-Some-Read in
