@@ -6,10 +6,16 @@ mod Limits
 mod Lines
 mod Located
 mod Opening
+mod OverClear
 mod PageStarts
 mod Pieces
+mod Errors
+mod FileText
+mod FirstSectors
 mod Printing
+mod Savecores
 pub mod SameReads
 mod TableEntries
 mod Translated
 mod Units
+mod Ways

@@ -1,2 +1,4 @@
+pub mod Drill
 pub mod Print
 pub mod ReadText
+pub mod Steps

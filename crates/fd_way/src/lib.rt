@@ -1,12 +1,22 @@
-//! The whole way of a dump: what reading an image's minidump gives is what the image gives, and the text in which bytes
-//! are printed. Stands on the definitions of `fd_dump` and of `fd_kvm`; reads as kvm(3) does.
+//! The whole way of a dump: what reading an image's minidump gives is what the image gives, the text in which bytes are
+//! printed, and one call that writes a dump or its first sectors, saves it and reads it back. Stands on the definitions of
+//! `fd_dump` and of `fd_kvm`, on the writer of `fd_part` and on `fd_save`; reads as kvm(3) does.
 #![tactic(auto)]
 
+mod drilling;
+mod first_sectors;
 pub mod laws;
 mod print;
 mod print_fault;
+mod savecore;
+mod saved_file;
+#[cfg(test)]
+mod tests;
 mod text;
+mod way_fault;
 
+pub use drilling::drill;
 pub use print::print_read;
 pub use print_fault::PrintFault;
 pub use text::read_text;
+pub use way_fault::{Drilled, WayFault};

@@ -1,5 +1,5 @@
 -- Three characters are put.
-use Rattle.std.proofs.Common.{◌≡◌, ◌/◌, ◌%◌, ◌++◌, ◌∷◌, [], ℕ, take, sym, ◌∙◌, ap, arith}
+use Rattle.std.proofs.Common.{◌++◌, ◌∷◌, [], take, sym, ◌∙◌, ap, arith}
 use Rattle.fd_way.proofs.Digits.{byte_digits, three_put}
 use Rattle.fd_way.proofs.text.put_byte.Goals as goal
 
