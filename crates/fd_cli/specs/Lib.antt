@@ -1,9 +1,11 @@
 pub mod Address
 pub mod Command
 pub mod Crash
+pub mod Delivered
 pub mod Ending
 pub mod Invocation
 pub mod Laws
+pub mod Received
 pub mod Refusal
 pub mod Reply
 pub mod Row

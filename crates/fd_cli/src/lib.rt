@@ -12,6 +12,7 @@ mod judge_partition;
 pub mod laws;
 mod make_image;
 mod netdump;
+mod netdumpd;
 mod read_memory;
 mod refusal;
 mod reply;

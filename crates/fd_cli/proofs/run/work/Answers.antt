@@ -63,6 +63,12 @@ returns-in-Some-Netdump g c =
     worked_by _ (Some (command.Netdump n.image n.server)) _ _ _ (sym c.in_ok-read_command.ensures.value ∙ n.is ∙ ap (λ (x : Command). Some x) n.field-0-is)
     (c.send_image.ensures _)
 
+pub returns-in-Some-Netdumpd : goal.returns-in-Some-Netdumpd
+returns-in-Some-Netdumpd g c =
+    let n = c.in-Some-Netdumpd in
+    worked_by _ (Some (command.Netdumpd n.dumps)) _ _ _ (sym c.in_ok-read_command.ensures.value ∙ n.is ∙ ap (λ (x : Command). Some x) n.field-0-is)
+    (c.serve_dumps.ensures _)
+
 pub returns-in-Some-Read : goal.returns-in-Some-Read
 returns-in-Some-Read g c =
     let r = c.in-Some-Read in
