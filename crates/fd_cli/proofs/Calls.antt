@@ -1,5 +1,5 @@
 -- Calls, by what a command's work came to: of any row.
-use Rattle.std.proofs.Common.{◌≡◌, inl, inr, ℕ, ◌≤◌, Bool, true, false, IsTrue, IsErrOf, List, [], take, Option, Some, None, Result, Ok, Err}
+use Rattle.std.proofs.Common.{◌≡◌, inl, inr, ℕ, ◌≤◌, Bool, true, false, ◌||◌, IsTrue, IsErrOf, List, [], take, Option, Some, None, Result, Ok, Err}
 use Rattle.std.proofs.Common.{refl, sym, ◌∙◌, ap, subst, arith}
 use Rattle.std.specs.Bool.{OnFalse}
 use Rattle.std.specs.Result.{IsErrAnd}
@@ -33,16 +33,20 @@ asked : (b : Bool) (P : Type 0) → IsTrue b → OnFalse b P
 asked true P is = tt
 asked false P is = absurd (cc)
 
+-- no fault of the site was spared
+pub none_spared : {P : Type 0} → IsTrue false → P
+none_spared is = absurd (cc)
+
 -- nothing was touched
 grew_nothing : (r : Reach) → Grew r r nothing
-grew_nothing r = record { site = with_entries-nil r.site.told; link = grown-nil r.link.told; ports = grown-nil r.ports.told }
+grew_nothing r = record { site = with_entries-nil r.site.told; link = grown-nil r.link.told; ports = grown-nil r.ports.told; spared = none_spared }
 
 kept_all : (blamed : Blamed) (r : Reach) → Kept blamed r r
 kept_all blamed r = record {
   site = record { size = refl; block = refl; count = stays r.site.faults };
   link = stays r.link.faults;
   ports = stays r.ports.faults;
-  quiet_site = unasked blamed.site refl;
+  quiet_site = unasked (blamed.site || blamed.spares) refl;
   quiet_link = unasked blamed.link refl;
   quiet_ports = unasked blamed.ports refl;
 }
@@ -50,7 +54,7 @@ kept_all blamed r = record {
 -- what is done on the site alone
 grew_on_site : (old new : Seen) (link : Watched LinkEvent) (ports : Watched PortsEvent) (entries : List Entry) → new.told ≡ with_entries old.told entries
     → Grew (reach old link ports) (reach new link ports) (only entries)
-grew_on_site old new link ports entries told = record { site = told; link = grown-nil link.told; ports = grown-nil ports.told }
+grew_on_site old new link ports entries told = record { site = told; link = grown-nil link.told; ports = grown-nil ports.told; spared = none_spared }
 
 works_on_site : (row : Row) (old new : Seen) (link : Watched LinkEvent) (ports : Watched PortsEvent) (result : Result Reply Trouble)
     → WorksOnSite row old new result → Works row (reach old link ports) (reach new link ports) result
@@ -75,7 +79,7 @@ worked_on_site row old new link ports result works frame cause blamed = record {
     site = frame;
     link = stays link.faults;
     ports = stays ports.faults;
-    quiet_site = asked row.blames.site _ blamed;
+    quiet_site = asked (row.blames.site || row.blames.spares) _ (ap (λ b. b || row.blames.spares) blamed);
     quiet_link = unasked row.blames.link refl;
     quiet_ports = unasked row.blames.ports refl;
   };
@@ -91,6 +95,7 @@ starves_at_once (Some (command.Clear force)) found = refl
 starves_at_once (Some (command.Save options keep)) found = refl
 starves_at_once (Some (command.Dump source)) found = refl
 starves_at_once (Some (command.Netdump source server)) found = refl
+starves_at_once (Some (command.Netdumpd dumps)) found = inl refl
 starves_at_once (Some (command.Read name va count)) found = refl
 
 pub starved_at_once : (command : Option Command) (r : Reach) (result : Result Reply Trouble) → IsErrAnd result (λ trouble. trouble ≡ NoMemory)

@@ -2,13 +2,16 @@ mod Calls
 mod Cleared
 mod Composed
 mod Cuts
+mod Delivering
 mod Dumps
 mod Good
 mod Images
 mod Outcomes
 mod Reading
 mod Refused
+mod Reports
 mod Saves
 mod Sendings
+mod Servings
 mod Sound
 mod Stopped

@@ -1,6 +1,7 @@
 -- The work of `netdump`, by its functions' outcomes.
 use Rattle.std.proofs.Common.{◌≡◌, inl, inr, ℕ, ◌+◌, ◌≤◌, true, false, List, [], ◌∷◌, length, Option, Result, Ok, Err, IsErr, IsErrOf}
 use Rattle.std.proofs.Common.{refl, sym, ◌∙◌, ap, subst, arith}
+use Rattle.std.specs.Result.{IsErrAnd}
 use Rattle.fd_site.specs.Fault.{Rose}
 use Rattle.fd_site.specs.Seen.{Frame, Seen, Untouched, Watched}
 use Rattle.fd_site.specs.Trace.{LinkEvent, Opening, PortsEvent, grown}
@@ -30,6 +31,7 @@ use Rattle.fd_cli.specs.declared.reply.Reply.{Reply}
 use Rattle.fd_cli.specs.declared.reply.Trouble.{Trouble}
 use Rattle.fd_cli.specs.declared.reply.Trouble.TheVariants.{Fault, NoMemory}
 use Rattle.fd_words.specs.declared.source.Source.{Source}
+use Rattle.fd_cli.proofs.Calls.{none_spared}
 
 -- a reply by a line
 replied : (answer : Answer) (reply : Reply) (bytes : List ℕ) → reply.status ≡ answer_status answer → text_bytes reply.text ≡ bytes → bytes ≡ answer_text answer
@@ -128,7 +130,7 @@ image_not_sent old new link ports source server fault (Ok reply) given is same c
   works = record {
     work = record { answer = is.0; added = nothing };
     does = (Err fault, given, refuses_all (Sends server) old fault _ (is.1 old));
-    grew = record { site = same.told ∙ with_entries-nil old.told; link = grown-nil link.told; ports = grown-nil ports.told };
+    grew = record { site = same.told ∙ with_entries-nil old.told; link = grown-nil link.told; ports = grown-nil ports.told; spared = none_spared };
     is = is.2;
   };
   kept = kept old new link link ports same (stays link.faults);
@@ -138,7 +140,7 @@ image_not_sent old new link ports source server fault (Err Fault) given is same 
   works = record {
     added = nothing;
     leaves = inl refl;
-    grew = record { site = same.told ∙ with_entries-nil old.told; link = grown-nil link.told; ports = grown-nil ports.told };
+    grew = record { site = same.told ∙ with_entries-nil old.told; link = grown-nil link.told; ports = grown-nil ports.told; spared = none_spared };
   };
   kept = kept old new link link ports same (stays link.faults);
   cause = λ fault_is. inl (refl, rose (ap (λ f. Err f) (cause fault_is)));
@@ -147,7 +149,7 @@ image_not_sent old new link ports source server fault (Err NoMemory) given is sa
   works = record {
     added = nothing;
     starves = refl;
-    grew = record { site = same.told ∙ with_entries-nil old.told; link = grown-nil link.told; ports = grown-nil ports.told };
+    grew = record { site = same.told ∙ with_entries-nil old.told; link = grown-nil link.told; ports = grown-nil ports.told; spared = none_spared };
   };
   kept = kept old new link link ports same (stays link.faults);
   cause = λ fault_is. inl (refl, rose (ap (λ f. Err f) (cause fault_is)));
@@ -161,7 +163,7 @@ image_sent old new link after ports source server m reply given same replies cou
   works = record {
     work = record { answer = replies.answer; added = on_link replies.events };
     does = (Ok m, given, replies.sends);
-    grew = record { site = same.told ∙ with_entries-nil old.told; link = replies.told; ports = grown-nil ports.told };
+    grew = record { site = same.told ∙ with_entries-nil old.told; link = replies.told; ports = grown-nil ports.told; spared = none_spared };
     is = replies.is;
   };
   kept = kept old new link after ports same count;
@@ -176,8 +178,23 @@ image_unsent old new link after ports source server m given same leaves count ro
   works = record {
     added = on_link leaves.events;
     leaves = elim leaves.left [ inl none ↦ inl (ap on_link none) | inr begun ↦ inr (m, given, begun) ];
-    grew = record { site = same.told ∙ with_entries-nil old.told; link = leaves.told; ports = grown-nil ports.told };
+    grew = record { site = same.told ∙ with_entries-nil old.told; link = leaves.told; ports = grown-nil ports.told; spared = none_spared };
   };
   kept = kept old new link after ports same count;
   cause = λ fault_is. inr (inl (refl, rose));
 }
+
+-- no memory was found for its plan
+pub plan_starved : (old new : Seen) (link : Watched LinkEvent) (ports : Watched PortsEvent) (source : Source) (server : ℕ) (result : Result Reply Trouble)
+    → IsErrAnd result (λ trouble. trouble ≡ NoMemory) → Untouched old new → Worked (netdump_row source server) (reach old link ports) (reach new link ports) result
+plan_starved old new link ports source server (Ok reply) is same = absurd is
+plan_starved old new link ports source server (Err trouble) is same =
+    subst (λ t. Worked (netdump_row source server) (reach old link ports) (reach new link ports) (Err t)) (sym is) (record {
+      works = record {
+        added = nothing;
+        starves = refl;
+        grew = record { site = same.told ∙ with_entries-nil old.told; link = grown-nil link.told; ports = grown-nil ports.told; spared = none_spared };
+      };
+      kept = kept old new link link ports same (stays link.faults);
+      cause = λ fault_is. absurd (cc);
+    })

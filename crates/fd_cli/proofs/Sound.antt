@@ -32,6 +32,7 @@ may_be_silent (Some (command.Clear force)) found = refl
 may_be_silent (Some (command.Save options keep)) found = refl
 may_be_silent (Some (command.Dump source)) found = refl
 may_be_silent (Some (command.Netdump source server)) found = refl
+may_be_silent (Some (command.Netdumpd dumps)) found = refl
 may_be_silent (Some (command.Read name va count)) found = refl
 
 -- a whole dump was begun
@@ -103,6 +104,7 @@ sound (Some (command.Save options keep)) local = record { whole = save_leaves op
 sound (Some (command.Judge force)) local = record { whole = judge_adds_nothing force; starved = λ found added is. is; silent = λ found. refl }
 sound (Some (command.Dump source)) local = record { whole = dump_leaves source; starved = λ found added is. inl is; silent = λ found. refl }
 sound (Some (command.Netdump source server)) local = absurd (no_bool local.0)
+sound (Some (command.Netdumpd dumps)) local = absurd (no_bool local.1)
 sound (Some (command.Read name va count)) local =
     record { whole = λ found w does. ap (λ x. x.added) does.1; starved = λ found added is. is; silent = λ found. refl }
 
@@ -124,17 +126,19 @@ adds_with_zero (Some (command.Dump source)) found w local does = elim (refused_o
   | inr whole ↦ inl (ap answer_status whole.dumps.answer)
 ]
 adds_with_zero (Some (command.Netdump source server)) found w local does = absurd (no_bool local.0)
+adds_with_zero (Some (command.Netdumpd dumps)) found w local does = absurd (no_bool local.1)
 adds_with_zero (Some (command.Read name va count)) found w local does = inr (ap (λ x. x.added) does.1)
 
-starves_with_nothing : (command : Option Command) (found : Seen) (added : Added) → (row_of command).Starves found added → added ≡ nothing
-starves_with_nothing None found added is = is
-starves_with_nothing (Some (command.Image arch number file)) found added is = is
-starves_with_nothing (Some (command.Judge force)) found added is = is
-starves_with_nothing (Some (command.Clear force)) found added is = is
-starves_with_nothing (Some (command.Save options keep)) found added is = is
-starves_with_nothing (Some (command.Dump source)) found added is = is
-starves_with_nothing (Some (command.Netdump source server)) found added is = is
-starves_with_nothing (Some (command.Read name va count)) found added is = is
+starves_with_nothing : (command : Option Command) (found : Seen) (added : Added) → IsLocal (row_of command) → (row_of command).Starves found added → added ≡ nothing
+starves_with_nothing None found added local is = is
+starves_with_nothing (Some (command.Image arch number file)) found added local is = is
+starves_with_nothing (Some (command.Judge force)) found added local is = is
+starves_with_nothing (Some (command.Clear force)) found added local is = is
+starves_with_nothing (Some (command.Save options keep)) found added local is = is
+starves_with_nothing (Some (command.Dump source)) found added local is = is
+starves_with_nothing (Some (command.Netdump source server)) found added local is = is
+starves_with_nothing (Some (command.Netdumpd dumps)) found added local is = absurd (no_bool local.1)
+starves_with_nothing (Some (command.Read name va count)) found added local is = is
 
 pub only_done_or_failed_adds : OnlyDoneOrFailedAdds
 only_done_or_failed_adds command old new status local call = by_ending call.ends
@@ -147,4 +151,4 @@ only_done_or_failed_adds command old new status local call = by_ending call.ends
     by_ending (inr (inl done)) = inr (inl done.status_is)
     by_ending (inr (inr (inl done))) = inr (inl done.status_is)
     by_ending (inr (inr (inr done))) =
-        inr (inr (subst (Grew old.reach new.reach) (starves_with_nothing command old.reach.site done.added done.starves) done.grew))
+        inr (inr (subst (Grew old.reach new.reach) (starves_with_nothing command old.reach.site done.added local done.starves) done.grew))

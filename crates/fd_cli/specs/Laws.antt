@@ -3,6 +3,7 @@ use Rattle.std.specs.Prelude.{◌≡◌, ◌⊎◌, ℕ, ◌≤◌, Bool, false,
 use Rattle.fd_site.specs.Contents.{Contents, Told, part_of, with_entries}
 use Rattle.fd_site.specs.Cut.{Disk, EachCutOf, IsCut}
 use Rattle.fd_site.specs.Seen.{Seen}
+use Rattle.fd_site.specs.Trace.{LinkEvent}
 use Rattle.fd_image.specs.Image.{MachineImage}
 use Rattle.fd_kdh.specs.Header.{dump_header}
 use Rattle.fd_dump.specs.Header.{header_of}
@@ -20,7 +21,9 @@ use Rattle.fd_cli.specs.Row.{Added, Grew, Outside, Row, Work, nothing}
 use Rattle.fd_cli.specs.Rows.{row_of}
 use Rattle.fd_cli.specs.Rows.Dump.{Names, dump_row}
 use Rattle.fd_cli.specs.Rows.Common.{Refuses}
+use Rattle.fd_cli.specs.Delivered.{IsImageKept}
 use Rattle.fd_cli.specs.Rows.Judge.{judge_row}
+use Rattle.fd_cli.specs.Rows.Netdump.{netdump_row, sent_to}
 use Rattle.fd_cli.specs.Rows.Read.{bytes_answer, read_row}
 use Rattle.fd_cli.specs.Rows.Save.{save_row}
 use Rattle.fd_cli.specs.declared.answer.Answer.TheVariants.{Dump, Saved}
@@ -130,6 +133,13 @@ abbrev pub EachSavedFileIsLeft : Type 0
 EachSavedFileIsLeft =
     (options : Options) (keep : Bool) (found : Seen) (new : Option Contents) → options.max ≡ None → IsSized found
     → Left (save_row options keep) found new → LeavesSavedFiles found.told new
+
+-- a `netdump` that ended with 0 opened a link and then had a trace by which the servers keep the dump of the image that its
+-- source named
+abbrev pub EachNetdumpIsDelivered : Type 0
+EachNetdumpIsDelivered =
+    (source : Source) (server : ℕ) (found : Seen) (w : Work) → (netdump_row source server).Does found w → answer_status w.answer ≡ 0
+    → (trace : List LinkEvent) × (w.added ≡ sent_to server trace) × Told found.told (λ c. IsImageKept c source trace)
 
 -- after a `savecore` that saved a dump and didn't keep it, one without force is refused: the dump is cleared
 abbrev pub ClearedIsRefused : Type 0

@@ -1,7 +1,9 @@
 pub mod Crash
+pub mod Delivered
 pub mod Ending
 pub mod Invocation
 pub mod Laws
+pub mod Received
 pub mod Refusal
 pub mod Reply
 pub mod Row

@@ -1,5 +1,5 @@
 -- What is printed where something is refused, and the status that the program then ends with.
-use Rattle.std.specs.Prelude.{ℕ, List, ◌++◌, codes}
+use Rattle.std.specs.Prelude.{ℕ, List, ◌++◌, codes, Option, Some, None}
 use Rattle.std.specs.Fmt.{decimal}
 use Rattle.fd_bytes.specs.Printed.{refused_line}
 use Rattle.fd_imgfile.specs.Fault.{image_number, image_text}
@@ -10,7 +10,7 @@ use Rattle.fd_part.specs.Printed.{bad_partition_number, bad_partition_text, no_r
 use Rattle.fd_judge.specs.Printed.{why_number, why_text}
 use Rattle.fd_cli.specs.declared.refusal.Refusal.{Refusal}
 use Rattle.fd_cli.specs.declared.refusal.Refusal.TheVariants.{Judged, Address, NoFile, NotImage, BadImage, NoRoom, Partition}
-use Rattle.fd_cli.specs.declared.refusal.Refusal.TheVariants.{Mini, Short, BadAvail, NotCommand, NoNumber, NoAnswer}
+use Rattle.fd_cli.specs.declared.refusal.Refusal.TheVariants.{Mini, Short, BadAvail, NotCommand, NoNumber, NoAnswer, TurnsSpent}
 
 abbrev pub number_of : Refusal → ℕ
 number_of (Judged why) = why_number why
@@ -25,6 +25,7 @@ number_of (Mini fault) = mini_number fault
 number_of (Short need have) = 50
 number_of (BadAvail index) = 51
 number_of NotCommand = 60
+number_of (TurnsSpent turns) = 61
 number_of NoNumber = 62
 
 abbrev pub text_of : Refusal → List ℕ
@@ -40,6 +41,7 @@ text_of (Mini fault) = mini_text fault
 text_of (Short need have) = codes "short, needs " ++ (decimal need ++ (codes " of " ++ decimal have))
 text_of (BadAvail index) = codes "range " ++ decimal index
 text_of NotCommand = codes "not a command"
+text_of (TurnsSpent turns) = codes "turns " ++ decimal turns
 text_of NoNumber = codes "no number"
 
 -- the refusal's line, without its newline
@@ -60,4 +62,10 @@ status_of (Mini fault) = 65
 status_of (Short need have) = 65
 status_of (BadAvail index) = 65
 status_of NotCommand = 64
+status_of (TurnsSpent turns) = 69
 status_of NoNumber = 69
+
+-- the status after so many turns that were spent, or none
+abbrev pub spent_status_of : Option ℕ → ℕ
+spent_status_of None = 0
+spent_status_of (Some turns) = status_of (TurnsSpent turns)

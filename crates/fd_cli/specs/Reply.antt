@@ -10,12 +10,13 @@ use Rattle.fd_cli.specs.declared.reply.Reply.{Reply}
 use Rattle.fd_cli.specs.declared.reply.Trouble.{Trouble}
 use Rattle.fd_cli.specs.declared.reply.Trouble.TheVariants.{Fault, NoMemory}
 use Rattle.fd_cli.specs.declared.text.Text.{Text}
-use Rattle.fd_cli.specs.declared.text.Text.TheVariants.{Line, Lines}
+use Rattle.fd_cli.specs.declared.text.Text.TheVariants.{Line, Lines, Report}
 
 -- what is printed, as its bytes
 abbrev pub text_bytes : Text → List ℕ
 text_bytes (Lines lines) = lines.items
 text_bytes (Line line) = line.bytes
+text_bytes (Report report) = report.bytes
 
 -- the text and the status of an answer
 pub record IsReplyOf (answer : Answer) (reply : Reply) : Type 0 where

@@ -1,10 +1,11 @@
 //! What follows from the rows of the commands alone.
 
 ghost use Rattle.std.specs.Prelude.{Option};
-ghost use Rattle.fd_cli.specs.Laws.{ClearedIsRefused, EachCutDumpIsSavedWhole, EachDumpIsSafe, EachSavecoreIsSafe, EachSavedFileIsLeft, IsLocal, IsSound, JudgeFindsDump, OnlyDoneOrFailedAdds, ReadsWhatWasDumped};
+ghost use Rattle.fd_cli.specs.Laws.{ClearedIsRefused, EachCutDumpIsSavedWhole, EachDumpIsSafe, EachNetdumpIsDelivered, EachSavecoreIsSafe, EachSavedFileIsLeft, IsLocal, IsSound, JudgeFindsDump, OnlyDoneOrFailedAdds, ReadsWhatWasDumped};
 ghost use Rattle.fd_cli.specs.Rows.{row_of};
 ghost use Rattle.fd_words.specs.declared.command.Command.{Command};
 
+use fd_networld::laws::a_done_client_was_served;
 use fd_save::laws::{each_cut_of_a_save_is_safe, each_save_is_saved, no_saved_file_is_touched};
 use fd_way::laws::each_read_of_a_minidump_is_the_images;
 
@@ -63,3 +64,11 @@ pub fn each_saved_file_is_left()
 pub fn each_cleared_dump_is_refused()
     ensures { ClearedIsRefused }
 {}
+
+/// The headline's second sentence: whatever the network loses, repeats or reorders, a `netdump` ends with 0 only where a server
+/// keeps the image's minidump, in files that are stable from then on.
+pub fn each_netdump_is_delivered()
+    ensures { EachNetdumpIsDelivered }
+{
+    a_done_client_was_served();
+}

@@ -10,6 +10,7 @@ mod judge_partition;
 pub mod laws;
 mod make_image;
 mod netdump;
+mod netdumpd;
 mod print_memory;
 mod print_reply;
 mod refusal;

@@ -6,6 +6,7 @@ ghost use Rattle.fd_site.specs.Fault.{Rose};
 ghost use Rattle.fd_site.specs.Seen.{Frame};
 ghost use Rattle.fd_words.specs.Command.{command_of};
 ghost use Rattle.fd_cli.specs.Crash.{IsCutOfDump, IsCutOfSavecore, IsFound, LeavesSavedFiles};
+ghost use Rattle.fd_cli.specs.Delivered.{IsDeliveredTo};
 ghost use Rattle.fd_cli.specs.Ending.{Call, Ends};
 ghost use Rattle.fd_cli.specs.Reply.{Worked, WorksOnSite};
 ghost use Rattle.fd_cli.specs.Row.{outside, Reach};
@@ -19,9 +20,10 @@ ghost use Rattle.fd_save.specs.declared.saved.Options.{Options};
 use crate::answer::Answer;
 use crate::dump_image::dump_image;
 use crate::judge_partition::judge_partition;
-use crate::laws::{each_savecore_is_safe, each_saved_file_is_left};
+use crate::laws::{each_netdump_is_delivered, each_savecore_is_safe, each_saved_file_is_left};
 use crate::make_image::make_image;
 use crate::netdump::send_image;
+use crate::netdumpd::serve_dumps;
 use crate::print_memory::print_memory;
 use crate::print_reply::print_reply;
 use crate::refusal::Refusal;
@@ -85,6 +87,9 @@ fn carry_out<S: Site, L: Link, P: Ports, O: Sink>(
         Some(Command::Netdump { image, server }) => {
             print_reply(send_image(alloc, site, link, &image, server), out)
         }
+        Some(Command::Netdumpd { dumps }) => {
+            print_reply(serve_dumps(alloc, site, ports, dumps), out)
+        }
         Some(
             Command::Read {
                 file,
@@ -119,9 +124,11 @@ pub fn crashway<S: Site, L: Link, P: Ports, O: Sink>(
     ensures found { (source : Source) → command_of words.now ≡ Some (command.Dump source) → result ≡ 0 → IsFound (S.seen site.old).told (S.seen site.new).told source (S.seen site.old).block }
     ensures stopped { (options : Options) (keep : Bool) → command_of words.now ≡ Some (command.Save options keep) → EachCutOf (S.seen site.old).told (S.seen site.new).told (IsCutOfSavecore options (S.seen site.old).block) }
     ensures others { (options : Options) (keep : Bool) → command_of words.now ≡ Some (command.Save options keep) → options.max ≡ None → LeavesSavedFiles (S.seen site.old).told (S.seen site.new).told }
+    ensures delivered { (source : Source) (server : ℕ) → command_of words.now ≡ Some (command.Netdump source server) → result ≡ 0 → IsDeliveredTo source server (S.seen site.old) (L.seen link.old).told (L.seen link.new).told }
     ensures reads { (name : List ℕ) (va count : ℕ) → command_of words.now ≡ Some (command.Read name va count) → OfImage (S.seen site.old) name (λ m. Ends (image_read_row m va count) (outside (S.seen site.old) (L.seen link.old) (P.seen ports.old) (O.seen out.old)) (outside (S.seen site.new) (L.seen link.new) (P.seen ports.new) (O.seen out.new)) result) }
 {
     each_read_of_a_minidump_is_the_images();
+    each_netdump_is_delivered();
     each_savecore_is_safe();
     each_saved_file_is_left();
     carry_out(alloc, words, site, link, ports, out)

@@ -45,6 +45,10 @@ pub enum Command {
         image: Source,
         server: u32,
     },
+    /// `netdumpd DUMPS`: take so many dumps from clients.
+    Netdumpd {
+        dumps: u16,
+    },
     /// `read FILE ADDRESS LENGTH`: print `count` bytes of a vmcore from a kernel address on.
     Read {
         file: Word,

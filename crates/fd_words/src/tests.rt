@@ -65,6 +65,10 @@ netdump a.img 1.2.3.4.5|none
 netdump a.img 1..3.4|none
 netdump a.img 0x1.2.3.4|none
 netdump a.img +1.2.3.4|none
+netdumpd 1|netdumpd 1
+netdumpd 16|netdumpd 16
+netdumpd 0|none
+netdumpd 17|none
 read k 1 2|read k 1 2
 read k 0xffffffffffffffff 1048576|read k 18446744073709551615 1048576
 read k 18446744073709551616 1|none
@@ -119,6 +123,7 @@ fn tell(alloc: Global, command: &Option<Command>) -> Result<String, Fail> {
         Some(Command::Netdump { image, server }) => {
             format!(in alloc; "netdump {} {server}", tell_source(alloc, image)?)?
         }
+        Some(Command::Netdumpd { dumps }) => format!(in alloc; "netdumpd {dumps}")?,
         Some(Command::Image { arch, number, file }) => {
             format!(in alloc; "image {} {number} {}", place(*arch), file.as_str())?
         }

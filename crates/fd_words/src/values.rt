@@ -4,7 +4,7 @@ ghost use Rattle.std.specs.Prelude.{◌≡◌, IfOk, map};
 ghost use Rattle.std.specs.Option.{option_map};
 ghost use Rattle.fd_bytes.specs.Number.{number_of};
 ghost use Rattle.fd_words.specs.Address.{address_of};
-ghost use Rattle.fd_words.specs.Command.{command_of_one, command_of_three, command_of_two, command_of_values, HasGoodNames, image_of, netdump_of, read_of};
+ghost use Rattle.fd_words.specs.Command.{command_of_one, command_of_three, command_of_two, command_of_values, HasGoodNames, image_of, netdump_of, netdumpd_of, read_of};
 ghost use Rattle.fd_words.specs.Source.{arch_of, source_of};
 
 use crate::address::read_address;
@@ -17,6 +17,9 @@ use std::alloc::{AllocError, Global};
 
 /// The most bytes that one `read` prints.
 const MOST_READ: u64 = 1_048_576;
+
+/// The most dumps that one server takes.
+const MOST_DUMPS: u64 = 16;
 
 // `image` to this file.
 fn image_command(
@@ -69,6 +72,19 @@ fn netdump_command(alloc: Global, image: &str, address: &str) -> Result<Option<C
     }
 }
 
+// `netdumpd` for so many dumps.
+fn netdumpd_command(dumps: &str) -> Option<Command>
+    ensures value { result ≡ netdumpd_of (number_of dumps.now) }
+    ensures names { HasGoodNames result }
+{
+    match read_number(dumps.as_bytes()) {
+        Ok(dumps) if 1 <= dumps && dumps <= MOST_DUMPS => Some(Command::Netdumpd {
+            dumps: dumps as u16,
+        }),
+        _ => None,
+    }
+}
+
 // `read` of this file.
 fn read_command_of(
     alloc: Global,
@@ -105,6 +121,9 @@ fn command_of_one(alloc: Global, name: &str, value: &str) -> Result<Option<Comma
 {
     if name == "dump" {
         return dump_command(alloc, value);
+    }
+    if name == "netdumpd" {
+        return Ok(netdumpd_command(value));
     }
     Ok(None)
 }

@@ -74,7 +74,7 @@ SendsOnLink server m old new (Err failed) = LinkLeaves server m old new
 
 -- a fault of the site or of the link may end it
 abbrev pub the_site_and_link : Blamed
-the_site_and_link = record { site = true; link = true; ports = false }
+the_site_and_link = record { site = true; link = true; ports = false; spares = false }
 
 -- what is done with what the image's source gives
 abbrev pub SendsSource : Source → (server : ℕ) → Seen → Work → Type 0

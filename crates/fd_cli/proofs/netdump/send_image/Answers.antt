@@ -1,4 +1,4 @@
-use Rattle.fd_cli.proofs.Sendings.{image_not_sent, image_sent, image_unsent}
+use Rattle.fd_cli.proofs.Sendings.{image_not_sent, image_sent, image_unsent, plan_starved}
 use Rattle.fd_cli.proofs.netdump.send_image.Goals as goal
 
 pub returns-in-Err : goal.returns-in-Err
@@ -15,3 +15,7 @@ pub returns : goal.returns
 returns g c ports =
     image_unsent _ _ _ _ ports c.args.source.now c.args.server c.in-Ok.image c.in-Ok.ensures.given c.in-Ok.ensures.untouched
     c.in-Err-send_plan.ensures.sends c.in-Err-send_plan.ensures.count c.in-Err-send_plan.ensures.cause
+
+pub returns-in_err-plan : goal.returns-in_err-plan
+returns-in_err-plan g c ports =
+    plan_starved _ _ _ ports c.args.source.now c.args.server _ c.from_residual.ensures.1 c.in-Ok.ensures.untouched

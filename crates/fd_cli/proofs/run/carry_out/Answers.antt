@@ -63,6 +63,12 @@ returns-in-Some-Netdump g c =
     called_by _ _ _ _ _ (sym c.in-Ok.ensures.value ∙ i.is ∙ ap (λ (x : Command). Some x) i.field-0-is)
     (c.print_reply-in-Some-Netdump.ensures (Some (command.Netdump i.image i.server)) _ _ (c.send_image.ensures _))
 
+pub returns-in-Some-Netdumpd : goal.returns-in-Some-Netdumpd
+returns-in-Some-Netdumpd g c =
+    let i = c.in-Some-Netdumpd in
+    called_by _ _ _ _ _ (sym c.in-Ok.ensures.value ∙ i.is ∙ ap (λ (x : Command). Some x) i.field-0-is)
+    (c.print_reply-in-Some-Netdumpd.ensures (Some (command.Netdumpd i.dumps)) _ _ (c.serve_dumps.ensures _))
+
 pub returns-in-Some-Read : goal.returns-in-Some-Read
 returns-in-Some-Read g c =
     let i = c.in-Some-Read in

@@ -2,6 +2,7 @@ use Rattle.std.proofs.Common.{Some, refl}
 use Rattle.fd_words.specs.declared.command.Command.TheVariants as command
 use Rattle.fd_cli.proofs.Calls.{call_by}
 use Rattle.fd_cli.proofs.Cuts.{each_dump_is_safe, found_of_call, left_of}
+use Rattle.fd_cli.proofs.Delivering.{delivered_of_call}
 use Rattle.fd_cli.proofs.Images.{reads_of_call}
 use Rattle.fd_cli.proofs.Sound.{sound}
 use Rattle.fd_cli.proofs.run.crashway.Goals as goal
@@ -28,3 +29,7 @@ pub returns-clause-others : goal.returns-clause-others
 returns-clause-others g c options keep is none =
     c.each_saved_file_is_left.ensures options keep _ _ none (λ d told. g.met.S.Site.told_size _ d told)
     (left_of _ _ _ _ (sound (Some (command.Save options keep)) (refl, refl)) (call_by _ _ _ _ _ is c.carry_out.ensures))
+
+pub returns-clause-delivered : goal.returns-clause-delivered
+returns-clause-delivered g c source server is zero =
+    delivered_of_call c.each_netdump_is_delivered.ensures _ _ source server _ (call_by _ _ _ _ _ is c.carry_out.ensures) zero
