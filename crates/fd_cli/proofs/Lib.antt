@@ -1,6 +1,7 @@
 mod Addresses
 mod Calls
 mod Cleared
+mod ClientRuns
 mod Composed
 mod Cuts
 mod Delivering

@@ -1,9 +1,10 @@
 //! What follows from the rows of the commands alone.
 
-ghost use Rattle.std.specs.Prelude.{Option};
-ghost use Rattle.fd_cli.specs.Laws.{ClearedIsRefused, EachCutDumpIsSavedWhole, EachDumpIsSafe, EachNetdumpIsDelivered, EachSavecoreIsSafe, EachSavedFileIsLeft, IsLocal, IsSound, JudgeFindsDump, OnlyDoneOrFailedAdds, ReadsWhatWasDumped};
+ghost use Rattle.std.specs.Prelude.{ℕ, Option};
+ghost use Rattle.fd_cli.specs.Laws.{AddsEntriesAlone, ClearedIsRefused, EachCutDumpIsSavedWhole, EachDumpIsSafe, EachNetdumpIsDelivered, EachSavecoreIsSafe, EachSavedFileIsLeft, IsLocal, IsRunAlways, IsSound, JudgeFindsDump, OnlyDoneOrFailedAdds, ReadsWhatWasDumped};
 ghost use Rattle.fd_cli.specs.Rows.{row_of};
 ghost use Rattle.fd_cli.specs.declared.command.Command.{Command};
+ghost use Rattle.fd_cli.specs.declared.source.Source.{Source};
 
 use fd_networld::laws::a_done_client_was_served;
 use fd_save::laws::{each_cut_of_a_save_is_safe, each_save_is_saved, no_saved_file_is_touched};
@@ -63,6 +64,16 @@ pub fn each_saved_file_is_left()
 /// A dump that was saved and not kept is refused by a `savecore` without `-f`: it is cleared.
 pub fn each_cleared_dump_is_refused()
     ensures { ClearedIsRefused }
+{}
+
+/// A command that uses no network adds nothing to the link's trace, nothing to the ports', and no fault of the site is spared.
+pub fn others_add_entries_alone()
+    ensures { AddsEntriesAlone }
+{}
+
+/// However a `netdump` ends, it added nothing, or it opened the link to the server and had a client run of the image's dump.
+pub fn each_netdump_is_a_run()
+    ensures { (source : Source) (server : ℕ) → IsRunAlways source server }
 {}
 
 /// The headline's second sentence: whatever the network loses, repeats or reorders, a `netdump` ends with 0 only where a server

@@ -41,6 +41,8 @@ mod image_files;
 #[cfg(test)]
 mod image_tests;
 #[cfg(test)]
+mod net_tests;
+#[cfg(test)]
 mod read_tests;
 #[cfg(test)]
 mod save_tests;
