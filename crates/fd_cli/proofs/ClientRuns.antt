@@ -1,5 +1,5 @@
 -- What a `netdump` added, however it ended.
-use Rattle.std.proofs.Common.{◌≡◌, inl, inr, ℕ, List, [], ◌∷◌, ◌++◌, Result, Ok, Err, refl, sym, ◌∙◌, ap, subst}
+use Rattle.std.proofs.Common.{inl, inr, ℕ, List, [], Result, Ok, Err, sym, ap, subst}
 use Rattle.std.proofs.lemmas.List.{append-nil}
 use Rattle.fd_site.specs.Seen.{Seen}
 use Rattle.fd_site.specs.Trace.{LinkEvent}
@@ -11,7 +11,7 @@ use Rattle.fd_netclient.specs.Trace.{IsClientRun, IsComplete, Outcome, Patience}
 use Rattle.fd_cli.specs.Laws.{IsRunAlways, MayHaveRun}
 use Rattle.fd_cli.specs.Row.{Added, Work}
 use Rattle.fd_cli.specs.Rows.Dump.{IsGiven, OnImage}
-use Rattle.fd_cli.specs.Rows.Netdump.{MayHaveBegunToSend, Sends, netdump_row}
+use Rattle.fd_cli.specs.Rows.Netdump.{MayHaveBegunToSend, Sends}
 use Rattle.fd_cli.specs.declared.source.Source.{Source}
 
 -- a whole trace is a run

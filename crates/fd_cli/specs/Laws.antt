@@ -1,5 +1,5 @@
 -- Laws over rows: what holds of every row, and what follows where calls come one after another.
-use Rattle.std.specs.Prelude.{◌≡◌, ◌⊎◌, ℕ, ◌≤◌, Bool, false, List, [], length, Option, Some, None, Result, Ok}
+use Rattle.std.specs.Prelude.{◌≡◌, ◌⊎◌, ℕ, ◌≤◌, Bool, false, List, [], length, Option, Some, None, Ok}
 use Rattle.fd_site.specs.Contents.{Contents, Told, part_of, with_entries}
 use Rattle.fd_site.specs.Cut.{Disk, EachCutOf, IsCut}
 use Rattle.fd_site.specs.Seen.{Seen}

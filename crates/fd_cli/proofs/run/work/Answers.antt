@@ -4,7 +4,6 @@ use Rattle.fd_cli.specs.Rows.Clear.{clear_row}
 use Rattle.fd_cli.specs.Rows.Dump.{dump_row}
 use Rattle.fd_cli.specs.Rows.Image.{image_row}
 use Rattle.fd_cli.specs.Rows.Judge.{judge_row}
-use Rattle.fd_cli.specs.Rows.Netdump.{netdump_row}
 use Rattle.fd_cli.specs.Rows.Read.{read_row}
 use Rattle.fd_cli.specs.Rows.Save.{save_row}
 use Rattle.fd_cli.specs.declared.command.Command.{Command}
