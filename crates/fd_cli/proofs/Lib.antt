@@ -10,6 +10,7 @@ mod Good
 mod Images
 mod Outcomes
 mod Reading
+mod Receiving
 mod Refused
 mod Reports
 mod Saves

@@ -10,6 +10,7 @@ use Rattle.fd_dump.specs.Header.{header_of}
 use Rattle.fd_dump.specs.KernelRead.{kernel_read}
 use Rattle.fd_dump.specs.Minidump.{minidump_of}
 use Rattle.fd_netclient.specs.Trace.{IsClientRun}
+use Rattle.fd_netserver.specs.Session.{Turn}
 use Rattle.fd_part.specs.Partition.{IsClear}
 use Rattle.fd_info.specs.Name.{vmcore_name}
 use Rattle.fd_info.specs.Saved.{IsSaved}
@@ -22,9 +23,10 @@ use Rattle.fd_cli.specs.Row.{Added, Grew, Outside, Row, Work, nothing, only}
 use Rattle.fd_cli.specs.Rows.{row_of}
 use Rattle.fd_cli.specs.Rows.Dump.{IsGiven, Names, dump_row}
 use Rattle.fd_cli.specs.Rows.Common.{Refuses}
-use Rattle.fd_cli.specs.Delivered.{IsImageKept}
+use Rattle.fd_cli.specs.Delivered.{HasTurns, IsImageKept, IsKeptByCalls}
 use Rattle.fd_cli.specs.Rows.Judge.{judge_row}
 use Rattle.fd_cli.specs.Rows.Netdump.{netdump_row, sent_to, usual}
+use Rattle.fd_cli.specs.Rows.Netdumpd.{netdumpd_row}
 use Rattle.fd_cli.specs.Rows.Read.{bytes_answer, read_row}
 use Rattle.fd_cli.specs.Rows.Save.{save_row}
 use Rattle.fd_cli.specs.declared.answer.Answer.TheVariants.{Dump, Saved}
@@ -152,6 +154,23 @@ pub record IsRunAlways (source : Source) (server : ℕ) : Type 0 where
   pub whole : (found : Seen) (w : Work) → (netdump_row source server).Does found w → MayHaveRun source server found w.added
   pub left : (found : Seen) (added : Added) → (netdump_row source server).Leaves found added → MayHaveRun source server found added
   pub starved : (found : Seen) (added : Added) → (netdump_row source server).Starves found added → MayHaveRun source server found added
+
+-- nothing was added, or ports listened and had turns of a server
+abbrev pub MayHaveTurns : Seen → Added → Type 0
+MayHaveTurns found added = (added ≡ nothing) ⊎ ((turns : List Turn) × HasTurns found added turns)
+
+-- however a `netdumpd` ended
+pub record HasTurnsAlways (dumps : ℕ) : Type 0 where
+  pub whole : (found : Seen) (w : Work) → (netdumpd_row dumps).Does found w → MayHaveTurns found w.added
+  pub left : (found : Seen) (added : Added) → (netdumpd_row dumps).Leaves found added → MayHaveTurns found added
+  pub starved : (found : Seen) (added : Added) → (netdumpd_row dumps).Starves found added → MayHaveTurns found added
+
+-- a `netdump` that ended with 0, and calls of `netdumpd` that its datagrams came to
+abbrev pub EachNetdumpIsReceived : Type 0
+EachNetdumpIsReceived =
+    (source : Source) (server : ℕ) (found : Seen) (w : Work) → (netdump_row source server).Does found w → answer_status w.answer ≡ 0
+    → (trace : List LinkEvent) × (w.added ≡ sent_to server trace)
+    × Told found.told (λ c. (m : MachineImage) × Names c source m × IsKeptByCalls m trace)
 
 -- a `netdump` that ended with 0 opened a link and then had a trace by which the servers keep the dump of the image that its
 -- source named

@@ -1,7 +1,7 @@
 //! What follows from the rows of the commands alone.
 
 ghost use Rattle.std.specs.Prelude.{ℕ, Option};
-ghost use Rattle.fd_cli.specs.Laws.{AddsEntriesAlone, ClearedIsRefused, EachCutDumpIsSavedWhole, EachDumpIsSafe, EachNetdumpIsDelivered, EachSavecoreIsSafe, EachSavedFileIsLeft, IsLocal, IsRunAlways, IsSound, JudgeFindsDump, OnlyDoneOrFailedAdds, ReadsWhatWasDumped};
+ghost use Rattle.fd_cli.specs.Laws.{AddsEntriesAlone, ClearedIsRefused, EachCutDumpIsSavedWhole, EachDumpIsSafe, EachNetdumpIsDelivered, EachNetdumpIsReceived, EachSavecoreIsSafe, EachSavedFileIsLeft, HasTurnsAlways, IsLocal, IsRunAlways, IsSound, JudgeFindsDump, OnlyDoneOrFailedAdds, ReadsWhatWasDumped};
 ghost use Rattle.fd_cli.specs.Rows.{row_of};
 ghost use Rattle.fd_cli.specs.declared.command.Command.{Command};
 ghost use Rattle.fd_cli.specs.declared.source.Source.{Source};
@@ -80,6 +80,18 @@ pub fn each_netdump_is_a_run()
 /// keeps the image's minidump, in files that are stable from then on.
 pub fn each_netdump_is_delivered()
     ensures { EachNetdumpIsDelivered }
+{
+    a_done_client_was_served();
+}
+
+/// However a `netdumpd` ends, it added nothing, or its ports listened and had turns of a server, whose entries the site has.
+pub fn each_netdumpd_has_turns()
+    ensures { (dumps : ℕ) → HasTurnsAlways dumps }
+{}
+
+/// The same of the two commands: where calls of `netdumpd` over one site had the turns, they keep the image's minidump.
+pub fn each_netdump_is_received()
+    ensures { EachNetdumpIsReceived }
 {
     a_done_client_was_served();
 }
