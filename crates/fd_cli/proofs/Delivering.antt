@@ -1,8 +1,8 @@
 -- What the servers have after a `netdump` that ended with 0.
-use Rattle.std.proofs.Common.{◌≡◌, inl, inr, ℕ, ◌+◌, ◌^◌, ◌≤◌, List, [], ◌∷◌, ◌++◌, length, Result, Ok, Err, refl, sym, ◌∙◌, ap, subst, arith}
+use Rattle.std.proofs.Common.{◌≡◌, inl, inr, ℕ, ◌^◌, ◌≤◌, List, ◌++◌, length, Result, Ok, Err, refl, sym, ◌∙◌, ap, arith}
 use Rattle.fd_site.specs.Contents.{Contents, Told}
 use Rattle.fd_site.specs.Seen.{Seen}
-use Rattle.fd_site.specs.Trace.{LinkEvent, Opening, grown}
+use Rattle.fd_site.specs.Trace.{LinkEvent, grown}
 use Rattle.fd_image.specs.Image.{MachineImage, IsValid}
 use Rattle.fd_imgfile.specs.declared.fault.ImageFault.{ImageFault}
 use Rattle.fd_imgfile.specs.declared.fault.ImageFault.TheVariants as image
@@ -11,7 +11,7 @@ use Rattle.fd_dump.specs.Minidump.{minidump_of}
 use Rattle.fd_dump.proofs.Headers.{header_within_fields}
 use Rattle.fd_dump.proofs.Limits.{pages_few, small, window_divided}
 use Rattle.fd_dump.proofs.SectionPlaces.{length-file}
-use Rattle.fd_dump.proofs.Sizes.{dumped_few, length-avail, length-bits, length-memory, minidump_pages}
+use Rattle.fd_dump.proofs.Sizes.{dumped_few, length-avail, length-bits, length-memory}
 use Rattle.fd_netclient.specs.Trace.{Done, IsComplete, Patience}
 use Rattle.fd_netserver.specs.Files.{files_after}
 use Rattle.fd_netserver.specs.History.{AreServerRuns, all_turns, entries_in}
@@ -20,13 +20,12 @@ use Rattle.fd_networld.specs.Delivery.{IsCarried, IsDelivered, IsSendable}
 use Rattle.fd_site.specs.Journal.{Entry}
 use Rattle.fd_site.specs.declared.ports.Peer.{Peer}
 use Rattle.fd_kdh.specs.declared.header.Header.{Header}
-use Rattle.fd_cli.specs.Delivered.{IsDeliveredTo, IsImageKept, IsKeptByServers}
+use Rattle.fd_cli.specs.Delivered.{IsDeliveredTo, IsImageKept}
 use Rattle.fd_cli.specs.Ending.{Call, answer_status}
 use Rattle.fd_cli.specs.Laws.{EachNetdumpIsDelivered}
 use Rattle.fd_cli.specs.Row.{Outside, Work}
 use Rattle.fd_cli.specs.Rows.Dump.{IsGiven, OnImage}
-use Rattle.fd_cli.specs.Rows.Netdump.{IsSent, Sends, netdump_row, sent_to}
-use Rattle.fd_cli.specs.declared.answer.Answer.TheVariants.{Refused, Sent}
+use Rattle.fd_cli.specs.Rows.Netdump.{Sends, netdump_row, sent_to}
 use Rattle.fd_cli.specs.declared.refusal.Refusal.TheVariants.{BadImage, NoFile, NotImage}
 use Rattle.fd_words.specs.declared.source.Source.{Source}
 use Rattle.fd_cli.proofs.Cuts.{answered_zero}

@@ -1,5 +1,6 @@
 mod Calls
 mod Cleared
+mod ClientRuns
 mod Composed
 mod Cuts
 mod Delivering
@@ -8,6 +9,7 @@ mod Good
 mod Images
 mod Outcomes
 mod Reading
+mod Receiving
 mod Refused
 mod Reports
 mod Saves

@@ -2,7 +2,7 @@
 use Rattle.std.proofs.Common.{◌≡◌, ℕ, ◌+◌, ◌*◌, ◌<◌, ◌≤◌, List, [], ◌∷◌, ◌++◌, length, take, get_or, refl, sym, ◌∙◌, ap, append_assoc, arith}
 use Rattle.std.proofs.lemmas.List.{append-nil, length-append, take_more}
 use Rattle.fd_netserver.specs.declared.limits.Received.{Received}
-use Rattle.fd_cli.specs.Received.{received_line, received_lines, report_of, spent_line}
+use Rattle.fd_cli.specs.Received.{received_line, received_lines}
 
 received_lines-append : (xs ys : List Received) → received_lines (xs ++ ys) ≡ received_lines xs ++ received_lines ys
 received_lines-append [] ys = refl

@@ -1,9 +1,9 @@
 -- The work of `netdump`, by its functions' outcomes.
-use Rattle.std.proofs.Common.{◌≡◌, inl, inr, ℕ, ◌+◌, ◌≤◌, true, false, List, [], ◌∷◌, length, Option, Result, Ok, Err, IsErr, IsErrOf}
+use Rattle.std.proofs.Common.{◌≡◌, inl, inr, ℕ, ◌+◌, ◌≤◌, List, [], ◌∷◌, length, Option, Result, Ok, Err, IsErr, IsErrOf}
 use Rattle.std.proofs.Common.{refl, sym, ◌∙◌, ap, subst, arith}
 use Rattle.std.specs.Result.{IsErrAnd}
 use Rattle.fd_site.specs.Fault.{Rose}
-use Rattle.fd_site.specs.Seen.{Frame, Seen, Untouched, Watched}
+use Rattle.fd_site.specs.Seen.{Seen, Untouched, Watched}
 use Rattle.fd_site.specs.Trace.{LinkEvent, Opening, PortsEvent, grown}
 use Rattle.fd_site.specs.declared.fault.Failed.{Failed}
 use Rattle.fd_site.proofs.Told.{grown-append, grown-nil, with_entries-nil}
@@ -23,7 +23,7 @@ use Rattle.fd_cli.specs.Ending.{answer_status, answer_text}
 use Rattle.fd_cli.specs.Reply.{IsReplyOf, Worked, text_bytes}
 use Rattle.fd_cli.specs.Row.{Kept, Work, nothing, on_link, reach}
 use Rattle.fd_cli.specs.Rows.Dump.{ByImage, IsGiven, OnImage, RefusesImage}
-use Rattle.fd_cli.specs.Rows.Netdump.{LinkLeaves, LinkReplies, Sends, SendsOnLink, netdump_row, sent_to, the_site_and_link, usual}
+use Rattle.fd_cli.specs.Rows.Netdump.{LinkLeaves, LinkReplies, Sends, SendsOnLink, netdump_row, the_site_and_link}
 use Rattle.fd_cli.specs.declared.answer.Answer.{Answer}
 use Rattle.fd_cli.specs.declared.answer.Answer.TheVariants.{Refused, Sent}
 use Rattle.fd_cli.specs.declared.refusal.Refusal.TheVariants.{NoAnswer}

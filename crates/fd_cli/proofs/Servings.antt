@@ -1,7 +1,6 @@
 -- The work of `netdumpd`, by its functions' outcomes.
-use Rattle.std.proofs.Common.{◌≡◌, ◌⊎◌, inl, inr, ℕ, ◌≤◌, Bool, true, false, IsTrue, List, [], ◌∷◌, ◌++◌, Option, Some, None, Result, Ok, Err}
-use Rattle.std.proofs.Common.{refl, sym, ◌∙◌, ap, subst, arith}
-use Rattle.fd_site.specs.Contents.{Told, file_of, with_entries}
+use Rattle.std.proofs.Common.{◌≡◌, ◌⊎◌, inl, inr, ℕ, ◌≤◌, Bool, true, false, IsTrue, List, [], ◌∷◌, Option, Some, None, Ok, Err}
+use Rattle.std.proofs.Common.{refl, ◌∙◌, ap, subst, arith}
 use Rattle.fd_site.specs.Fault.{Rose}
 use Rattle.fd_site.specs.Seen.{Frame, Seen, Watched}
 use Rattle.fd_site.specs.Trace.{LinkEvent, Listening, PortsEvent, grown}
@@ -12,17 +11,11 @@ use Rattle.fd_netserver.specs.Session.{Turn}
 use Rattle.fd_netserver.specs.declared.limits.Received.{Received}
 use Rattle.fd_netserver.specs.declared.limits.ServeFault.{ServeFault}
 use Rattle.fd_netserver.specs.declared.limits.ServeFault.TheVariants as serve
-use Rattle.fd_netserver.specs.declared.limits.ServeLimits.{ServeLimits}
-use Rattle.fd_cli.specs.Ending.{answer_status, answer_text}
-use Rattle.fd_cli.specs.Received.{report_of}
-use Rattle.fd_cli.specs.Refusal.{spent_status_of}
-use Rattle.fd_cli.specs.Reply.{IsReplyOf, Worked, text_bytes}
+use Rattle.fd_cli.specs.Reply.{IsReplyOf, Worked}
 use Rattle.fd_cli.specs.Row.{Added, Grew, Kept, nothing, reach}
 use Rattle.fd_cli.specs.Rows.Netdumpd.{Ending, Serves, limits_of, netdumpd_row, the_ports}
-use Rattle.fd_cli.specs.declared.answer.Answer as answer
 use Rattle.fd_cli.specs.declared.answer.Answer.TheVariants as answers
 use Rattle.fd_cli.specs.declared.reply.Reply.{Reply}
-use Rattle.fd_cli.specs.declared.reply.Trouble.{Trouble}
 use Rattle.fd_cli.specs.declared.reply.Trouble.TheVariants.{Fault, NoMemory}
 use Rattle.fd_cli.proofs.Calls.{none_spared}
 

@@ -8,7 +8,7 @@ use Rattle.fd_dump.specs.Header.{header_of}
 use Rattle.fd_dump.specs.Minidump.{minidump_of}
 use Rattle.fd_part.proofs.WholeDump.{IsBegunDump-whole}
 use Rattle.fd_cli.specs.Ending.{Ends, answer_status}
-use Rattle.fd_cli.specs.Laws.{IsLocal, IsSound, OnlyDoneOrFailedAdds}
+use Rattle.fd_cli.specs.Laws.{AddsEntriesAlone, IsLocal, IsSound, OnlyDoneOrFailedAdds}
 use Rattle.fd_save.specs.Saving.{clearing}
 use Rattle.fd_save.specs.declared.saved.Options.{Options}
 use Rattle.fd_cli.specs.Row.{Added, Grew, Work, nothing, only}
@@ -152,3 +152,18 @@ only_done_or_failed_adds command old new status local call = by_ending call.ends
     by_ending (inr (inr (inl done))) = inr (inl done.status_is)
     by_ending (inr (inr (inr done))) =
         inr (inr (subst (Grew old.reach new.reach) (starves_with_nothing command old.reach.site done.added local done.starves) done.grew))
+
+-- nothing is no entries
+none_alone : (added : Added) → added ≡ nothing → added ≡ only added.entries
+none_alone added is = subst (λ (a : Added). a ≡ only a.entries) (sym is) refl
+
+pub adds_entries_alone : AddsEntriesAlone
+adds_entries_alone None found added local left = none_alone added left
+adds_entries_alone (Some (command.Image arch number file)) found added local left = elim left [ inl none ↦ none_alone added none | inr begun ↦ begun.alone ]
+adds_entries_alone (Some (command.Judge force)) found added local left = none_alone added left
+adds_entries_alone (Some (command.Clear force)) found added local left = elim left [ inl none ↦ none_alone added none | inr begun ↦ begun.alone ]
+adds_entries_alone (Some (command.Save options keep)) found added local left = elim left [ inl none ↦ none_alone added none | inr begun ↦ begun.alone ]
+adds_entries_alone (Some (command.Dump source)) found added local left = elim left [ inl none ↦ none_alone added none | inr begun ↦ begun.2.alone ]
+adds_entries_alone (Some (command.Netdump source server)) found added local left = absurd (no_bool local.0)
+adds_entries_alone (Some (command.Netdumpd dumps)) found added local left = absurd (no_bool local.1)
+adds_entries_alone (Some (command.Read name va count)) found added local left = none_alone added left

@@ -107,10 +107,12 @@ fn carry_out<S: Site, L: Link, P: Ports, O: Sink>(
 /// `cleared`; `savecore` saves the dump to files, marks it unless `-k` is given, and prints `saved vmcore.N LENGTH`, or is
 /// refused with 69 where no number is free. `dump IMAGE` writes the dump of a machine image, of that file or made, and prints
 /// `dumped LENGTH`. `read FILE ADDRESS LENGTH` prints the bytes of a saved minidump at kernel addresses, 16 a line; an address
-/// that has no byte is refused with 1. A partition that can't hold a dump, a file that is no image or no minidump, and a
-/// partition without room are refused with 65, words that are no command with 64. Status 74 says that the site or the sink
-/// failed, and a part of the text may then have been printed; status 71 that no memory was found. Only with 0 and 74 something
-/// was written.
+/// that has no byte is refused with 1. `netdump IMAGE ADDRESS` sends the dump of a machine image to the server of an IPv4 address and
+/// prints `sent LENGTH LASTSEQNO`; a message that isn't acknowledged is refused with 1. `netdumpd DUMPS` receives so many dumps,
+/// saves them, and prints `received vmcore.N LENGTH` for each; where its turns are spent before, that is refused with 69. A partition that can't hold a dump, a file that is no image or no minidump, and a
+/// partition without room are refused with 65, words that are no command with 64. Status 74 says that the site, the
+/// link, the ports or the sink failed, and a part of the text may then have been printed; a fault of the site doesn't end
+/// `netdumpd`. Status 71 says that no memory was found. But for `netdump` and `netdumpd`, something was written only with 0 and 74.
 pub fn crashway<S: Site, L: Link, P: Ports, O: Sink>(
     alloc: Global,
     words: &[Word],
