@@ -18,7 +18,7 @@ use Rattle.fd_part.proofs.WholeDump.{IsBegunDump-whole, sectors_of_dump}
 use Rattle.fd_way.specs.Steps.{Writes}
 
 -- a whole dump has its first n sectors, where it has no more
-whole_stopped : (body : List ℕ) (h : Header) (size block n : ℕ) (journal : List Entry) → IsDumpJournal body h size block journal
+pub whole_stopped : (body : List ℕ) (h : Header) (size block n : ℕ) (journal : List Entry) → IsDumpJournal body h size block journal
     → length (dump_sectors body h size block) ≤ n → IsStoppedDump body h size block n journal
 whole_stopped body h size block n journal dump enough = record {
   begun = IsBegunDump-whole body h size block journal dump;

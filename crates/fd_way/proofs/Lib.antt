@@ -1,7 +1,10 @@
 mod AvailBack
 mod BitmapBits
+mod ClearWays
+mod Decided
 mod Digits
 mod ImageWords
+mod LastSectors
 mod Limits
 mod Lines
 mod Located

@@ -28,7 +28,7 @@ use Rattle.fd_save.specs.declared.saved.Saved as save
 use Rattle.fd_mini.specs.Kernel.{KernelBytes}
 use Rattle.fd_vmcore.specs.declared.open.OpenFault.{OpenFault}
 use Rattle.fd_kvm.specs.Answer.{answer_of}
-use Rattle.fd_way.specs.Drill.{Answers, Does, Drill, Drills, IsDumped, IsSaved, Outcome, Refused, Saved, after, drill_answer}
+use Rattle.fd_way.specs.Drill.{Answers, Does, Drill, Drills, IsDumped, EndsSaved, Outcome, Refused, Saved, after, drill_answer}
 use Rattle.fd_way.specs.declared.way_fault.Drilled.{Drilled}
 use Rattle.fd_way.specs.declared.way_fault.WayFault.{WayFault}
 use Rattle.fd_way.specs.declared.way_fault.WayFault.TheVariants as way
@@ -99,10 +99,10 @@ pub record IsOfImage (d : Drill) (block number len : ℕ) (given : Result Kernel
 module _ (law : ReadingLaw) (d : Drill) (found : Seen) (c : Contents) (told : found.told ≡ Some c) (sized : length (part_of c) ≡ found.size) (valid : IsValid d.image)
     (good : IsTrue (is_good found.size found.block)) (clear : IsClear (part_of c) found.block) where
   -- the partition after the entries of a dump
-  told_after : (dump : List Entry) → (after found dump).told ≡ Some (then_adds c dump)
+  pub told_after : (dump : List Entry) → (after found dump).told ≡ Some (then_adds c dump)
   told_after dump = ap (λ t. with_entries t dump) told
 
-  part_behind : (dump : List Entry) → part_of (then_adds c dump) ≡ part_after (part_of c) dump
+  pub part_behind : (dump : List Entry) → part_of (then_adds c dump) ≡ part_after (part_of c) dump
   part_behind dump = part_after-append c.base_part c.journal dump
 
   pub refused_or_dumped : (dump : List Entry) → IsDumped d found dump
@@ -111,7 +111,7 @@ module _ (law : ReadingLaw) (d : Drill) (found : Seen) (c : Contents) (told : fo
       subst (IsRefusedOrThis (minidump_of d.image) (header_of d.image found.block) found.block) (sym (part_behind dump))
       (begun_or_this (part_of c) d.image found.size found.block dump sized valid good dumped.room clear dumped.first.begun)
 
-  saved_of_image : (number len : ℕ) (given : Result KernelBytes OpenFault) (added : List Entry) (s : IsSaved d found number len given added)
+  pub saved_of_image : (number len : ℕ) (given : Result KernelBytes OpenFault) (added : List Entry) (s : EndsSaved d found number len given added)
       → IsOfImage d found.block number len given s.saved s.body
   saved_of_image number len given added s = elim (refused_or_dumped s.dump s.dumped) [
     | inl refused ↦

@@ -25,7 +25,7 @@ use Rattle.fd_mini.specs.Kernel.{KernelBytes}
 use Rattle.fd_mini.specs.declared.address_fault.AddressFault.{AddressFault}
 use Rattle.fd_vmcore.specs.declared.open.OpenFault.{OpenFault}
 use Rattle.fd_kvm.specs.Answer.{answer_of}
-use Rattle.fd_way.specs.Drill.{Answers, Drill, Drills, Ended, IsDumped, IsRefused, IsSaved, IsSavecore, Leaves, Outcome, Refused, Saved}
+use Rattle.fd_way.specs.Drill.{Answers, Drill, Drills, Ended, IsDumped, EndsRefused, EndsSaved, IsSavecore, Leaves, Outcome, Refused, Saved}
 use Rattle.fd_way.specs.Drill.{after, no_options, refusal_text, saved_text}
 use Rattle.fd_way.specs.Steps.{IsOfFile, LacksNumber, PrintsFile, PrintsRefusal, Reads, RefusesWhole, Saves, SavesAndClears, Writes, WritesFirst}
 use Rattle.fd_way.specs.declared.way_fault.Drilled.TheVariants as drilled
@@ -107,7 +107,7 @@ module _ (d : Drill) (old mid : Seen) (was : Watched ℕ)
     abbrev refusal : Outcome
     refusal = Refused why
 
-    refused_does : IsRefused d old why dump
+    refused_does : EndsRefused d old why dump
     refused_does = record { dumped = dumped; judged = judged_there _ refuses.judged }
 
     pub refused : now.told ≡ grown was.told (refusal_text why) → Answers d old new was now (Ok (drilled.Refused why))
@@ -196,7 +196,7 @@ module _ (d : Drill) (old mid : Seen) (was : Watched ℕ)
     given_there : (given : Result KernelBytes OpenFault) → IsOfFile last.told saved.number d.va d.count given → Told old.told (λ c. given ≡ answer_of saves.body d.va d.count)
     given_there given is c told = is (then_adds (then_adds c dump) saves.planned) (told_files c told) saves.body (file_there c told)
 
-    is_saved : (given : Result KernelBytes OpenFault) → Told old.told (λ c. given ≡ answer_of saves.body d.va d.count) → IsSaved d old saved.number len given all
+    is_saved : (given : Result KernelBytes OpenFault) → Told old.told (λ c. given ≡ answer_of saves.body d.va d.count) → EndsSaved d old saved.number len given all
     is_saved given is = record {
       dump = dump;
       dumped = dumped;

@@ -90,17 +90,17 @@ pub record IsSavecore (found : Seen) (saved : save.Saved) (body : List ℕ) (pla
   pub is : planned ≡ saving ++ clearing found.size found.block saved.sector
 
 -- what stood there was refused
-pub record IsRefused (d : Drill) (found : Seen) (why : Why) (added : List Entry) : Type 0 where
+pub record EndsRefused (d : Drill) (found : Seen) (why : Why) (added : List Entry) : Type 0 where
   pub dumped : IsDumped d found added
   pub judged : Refuses false (after found added) why
 
 -- a dump stood there, and there was no number for it
-pub record IsUnnumbered (d : Drill) (found : Seen) (added : List Entry) : Type 0 where
+pub record EndsUnnumbered (d : Drill) (found : Seen) (added : List Entry) : Type 0 where
   pub dumped : IsDumped d found added
   pub none : HasNoNumber no_options (after found added)
 
 -- the dump that stood there was saved and cleared, and this is what reading its bytes gives, where they are told
-pub record IsSaved (d : Drill) (found : Seen) (number len : ℕ) (given : Result KernelBytes OpenFault) (added : List Entry) : Type 0 where
+pub record EndsSaved (d : Drill) (found : Seen) (number len : ℕ) (given : Result KernelBytes OpenFault) (added : List Entry) : Type 0 where
   pub dump : List Entry
   pub dumped : IsDumped d found dump
   pub saved : save.Saved
@@ -114,8 +114,8 @@ pub record IsSaved (d : Drill) (found : Seen) (number len : ℕ) (given : Result
 
 -- a drill's way to its end, over what was found
 abbrev pub Does : Drill → Seen → Outcome → List Entry → Type 0
-Does d found (Refused why) added = IsRefused d found why added
-Does d found (Saved number len given) added = IsSaved d found number len given added
+Does d found (Refused why) added = EndsRefused d found why added
+Does d found (Saved number len given) added = EndsSaved d found number len given added
 
 -- What a drill may leave that was ended on its way, and what it had printed by then: of a dump that was begun; of a
 -- savecore that was begun over what was written; or, behind both, while the saved file was read.
@@ -140,7 +140,7 @@ pub record HasSaved (d : Drill) (found : Seen) (added : List Entry) (early : Lis
   pub number : ℕ
   pub len : ℕ
   pub given : Result KernelBytes OpenFault
-  pub is_saved : IsSaved d found number len given added
+  pub is_saved : EndsSaved d found number len given added
   pub said : early ≡ saved_text number len
 
 abbrev pub Leaves : Drill → Seen → (added : List Entry) → (early : List ℕ) → Type 0
@@ -190,7 +190,7 @@ pub record HasNoRoom (d : Drill) (old new : Seen) (was now : Watched ℕ) (room 
 -- no number was free for the dump that stood there, and nothing was printed
 pub record FindsNoNumber (d : Drill) (old new : Seen) (was now : Watched ℕ) : Type 0 where
   pub added : List Entry
-  pub unnumbered : IsUnnumbered d old added
+  pub unnumbered : EndsUnnumbered d old added
   pub told : new.told ≡ with_entries old.told added
   pub silent : now ≡ was
 

@@ -1,4 +1,5 @@
 pub mod Drill
+pub mod Laws
 pub mod Print
 pub mod ReadText
 pub mod Steps

@@ -18,5 +18,6 @@ mod way_fault;
 pub use drilling::drill;
 pub use print::print_read;
 pub use print_fault::PrintFault;
+pub use saved_file::saved_line;
 pub use text::read_text;
 pub use way_fault::{Drilled, WayFault};

@@ -46,8 +46,8 @@ pub(crate) fn refuse<O: Sink>(alloc: Global, why: Why, out: &mut O) -> Result<()
     }
 }
 
-// The line of a dump that was saved.
-fn saved_line(number: u32, length: u64) -> ArrayString<96>
+/// The line of a dump of so many bytes that was saved under a number, with its newline. It takes no memory.
+pub fn saved_line(number: u32, length: u64) -> ArrayString<96>
     ensures { result.bytes ≡ saved_text number length }
 {
     let mut line = ArrayString::new();
