@@ -1,5 +1,5 @@
 -- Calls, by what a command's work came to: of any row.
-use Rattle.std.proofs.Common.{◌≡◌, inl, inr, ℕ, ◌≤◌, Bool, true, false, IsTrue, IsErrOf, List, [], take, Option, Some, None, Result, Ok, Err}
+use Rattle.std.proofs.Common.{◌≡◌, inl, inr, ℕ, ◌≤◌, Bool, true, false, ◌||◌, IsTrue, IsErrOf, List, [], take, Option, Some, None, Result, Ok, Err}
 use Rattle.std.proofs.Common.{refl, sym, ◌∙◌, ap, subst, arith}
 use Rattle.std.specs.Bool.{OnFalse}
 use Rattle.std.specs.Result.{IsErrAnd}
@@ -10,12 +10,12 @@ use Rattle.fd_site.specs.Seen.{Frame, Seen, Watched}
 use Rattle.fd_site.specs.Trace.{LinkEvent, PortsEvent, grown}
 use Rattle.fd_site.proofs.Told.{grown-nil, with_entries-nil}
 use Rattle.fd_cli.specs.Ending.{Call}
-use Rattle.fd_cli.specs.Reply.{IsReplyOf, Worked, Works, WorksOnSite, text_bytes}
+use Rattle.fd_cli.specs.Reply.{IsReplyOf, Worked, Works, WorksOnSite, text_bytes, trouble_status}
 use Rattle.fd_cli.specs.Row.{Blamed, Grew, Kept, Outside, Reach, Row, nothing, only, reach}
 use Rattle.fd_cli.specs.Rows.{no_command_row, row_of}
 use Rattle.fd_cli.specs.declared.answer.Answer.TheVariants.{Refused}
-use Rattle.fd_cli.specs.declared.command.Command.{Command}
-use Rattle.fd_cli.specs.declared.command.Command.TheVariants as command
+use Rattle.fd_words.specs.declared.command.Command.{Command}
+use Rattle.fd_words.specs.declared.command.Command.TheVariants as command
 use Rattle.fd_cli.specs.declared.refusal.Refusal.TheVariants.{NotCommand}
 use Rattle.fd_cli.specs.declared.reply.Reply.{Reply}
 use Rattle.fd_cli.specs.declared.reply.Trouble.{Trouble}
@@ -33,16 +33,20 @@ asked : (b : Bool) (P : Type 0) → IsTrue b → OnFalse b P
 asked true P is = tt
 asked false P is = absurd (cc)
 
+-- no fault of the site was spared
+pub none_spared : {P : Type 0} → IsTrue false → P
+none_spared is = absurd (cc)
+
 -- nothing was touched
 grew_nothing : (r : Reach) → Grew r r nothing
-grew_nothing r = record { site = with_entries-nil r.site.told; link = grown-nil r.link.told; ports = grown-nil r.ports.told }
+grew_nothing r = record { site = with_entries-nil r.site.told; link = grown-nil r.link.told; ports = grown-nil r.ports.told; spared = none_spared }
 
 kept_all : (blamed : Blamed) (r : Reach) → Kept blamed r r
 kept_all blamed r = record {
   site = record { size = refl; block = refl; count = stays r.site.faults };
   link = stays r.link.faults;
   ports = stays r.ports.faults;
-  quiet_site = unasked blamed.site refl;
+  quiet_site = unasked (blamed.site || blamed.spares) refl;
   quiet_link = unasked blamed.link refl;
   quiet_ports = unasked blamed.ports refl;
 }
@@ -50,7 +54,7 @@ kept_all blamed r = record {
 -- what is done on the site alone
 grew_on_site : (old new : Seen) (link : Watched LinkEvent) (ports : Watched PortsEvent) (entries : List Entry) → new.told ≡ with_entries old.told entries
     → Grew (reach old link ports) (reach new link ports) (only entries)
-grew_on_site old new link ports entries told = record { site = told; link = grown-nil link.told; ports = grown-nil ports.told }
+grew_on_site old new link ports entries told = record { site = told; link = grown-nil link.told; ports = grown-nil ports.told; spared = none_spared }
 
 works_on_site : (row : Row) (old new : Seen) (link : Watched LinkEvent) (ports : Watched PortsEvent) (result : Result Reply Trouble)
     → WorksOnSite row old new result → Works row (reach old link ports) (reach new link ports) result
@@ -75,7 +79,7 @@ worked_on_site row old new link ports result works frame cause blamed = record {
     site = frame;
     link = stays link.faults;
     ports = stays ports.faults;
-    quiet_site = asked row.blames.site _ blamed;
+    quiet_site = asked (row.blames.site || row.blames.spares) _ (ap (λ b. b || row.blames.spares) blamed);
     quiet_link = unasked row.blames.link refl;
     quiet_ports = unasked row.blames.ports refl;
   };
@@ -90,6 +94,8 @@ starves_at_once (Some (command.Judge force)) found = refl
 starves_at_once (Some (command.Clear force)) found = refl
 starves_at_once (Some (command.Save options keep)) found = refl
 starves_at_once (Some (command.Dump source)) found = refl
+starves_at_once (Some (command.Netdump source server)) found = refl
+starves_at_once (Some (command.Netdumpd dumps)) found = inl refl
 starves_at_once (Some (command.Read name va count)) found = refl
 
 pub starved_at_once : (command : Option Command) (r : Reach) (result : Result Reply Trouble) → IsErrAnd result (λ trouble. trouble ≡ NoMemory)
@@ -109,17 +115,12 @@ not_a_command r reply is = record {
   cause = λ fault. absurd (cc);
 }
 
--- the work of words that are this command
-pub worked_by : (command this : Option Command) (old new : Reach) (result : Result Reply Trouble) → command ≡ this → Worked (row_of this) old new result
-    → Worked (row_of command) old new result
-worked_by command this old new result is worked = subst (λ c. Worked (row_of c) old new result) (sym is) worked
-
--- by what ended the work
-pub by_trouble : (row : Row) (old new : Reach) (trouble this : Trouble) → trouble ≡ this → Worked row old new (Err trouble) → Worked row old new (Err this)
-by_trouble row old new trouble this is worked = subst (λ t. Worked row old new (Err t)) is worked
+-- by the reply that was given
+pub by_reply : (row : Row) (old new : Reach) (result this : Result Reply Trouble) → result ≡ this → Worked row old new result → Worked row old new this
+by_reply row old new result this is worked = subst (λ r. Worked row old new r) is worked
 
 -- a fault ended the work, before a word was printed
-pub failed : (row : Row) (old : Outside) (new : Reach) → row.Says old.reach.site [] → Worked row old.reach new (Err Fault)
+failed : (row : Row) (old : Outside) (new : Reach) → row.Says old.reach.site [] → Worked row old.reach new (Err Fault)
     → Call row old (record { reach = new; sink = old.sink }) 74
 failed row old new silent worked = record {
   ends = inr (inr (inl (record {
@@ -153,6 +154,16 @@ starved row old new silent worked = record {
   sink = stays old.sink.faults;
 }
 
+-- the work ended without a reply
+ended : (row : Row) (old : Outside) (new : Reach) (trouble : Trouble) → row.Says old.reach.site [] → Worked row old.reach new (Err trouble)
+    → Call row old (record { reach = new; sink = old.sink }) (trouble_status trouble)
+ended row old new Fault silent worked = failed row old new silent worked
+ended row old new NoMemory silent worked = starved row old new silent worked
+
+pub ended_so : (row : Row) (old : Outside) (new : Reach) (trouble : Trouble) (status : ℕ) → status ≡ trouble_status trouble → row.Says old.reach.site []
+    → Worked row old.reach new (Err trouble) → Call row old (record { reach = new; sink = old.sink }) status
+ended_so row old new trouble status is silent worked = subst (Call row old (record { reach = new; sink = old.sink })) (sym is) (ended row old new trouble silent worked)
+
 -- the reply was printed
 pub answered : (row : Row) (old new : Outside) (reply : Reply) → Worked row old.reach new.reach (Ok reply)
     → new.sink.told ≡ grown old.sink.told (text_bytes reply.text) → old.sink.faults ≤ new.sink.faults → Call row old new reply.status
@@ -185,6 +196,11 @@ unprinted row old new reply worked bytes text_is text count rose = record {
   kept = worked.kept;
   sink = count;
 }
+
+-- a call of this command is one of words that are it
+pub called_by : (command this : Option Command) (old new : Outside) (status : ℕ) → command ≡ this → Call (row_of this) old new status
+    → Call (row_of command) old new status
+called_by command this old new status is call = subst (λ c. Call (row_of c) old new status) (sym is) call
 
 -- the call of words that are this command
 pub call_by : (command this : Option Command) (old new : Outside) (status : ℕ) → command ≡ this → Call (row_of command) old new status

@@ -27,7 +27,7 @@ use Rattle.fd_cli.specs.Rows.Dump.{Names}
 use Rattle.fd_cli.specs.Rows.Save.{Saves, clearing_unless, save_row}
 use Rattle.fd_cli.specs.declared.answer.Answer.TheVariants as answer
 use Rattle.fd_cli.specs.declared.refusal.Refusal.{Refusal}
-use Rattle.fd_cli.specs.declared.source.Source.{Source}
+use Rattle.fd_words.specs.declared.source.Source.{Source}
 use Rattle.fd_cli.proofs.Cuts.{each_dump_is_safe, whole_is_found}
 use Rattle.fd_cli.proofs.Dumps.{image_of}
 use Rattle.fd_cli.proofs.Images.{ReadingLaw, read_is_images}

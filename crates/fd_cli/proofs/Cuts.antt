@@ -25,7 +25,7 @@ use Rattle.fd_cli.specs.Rows.Common.{OnGood}
 use Rattle.fd_cli.specs.Rows.Dump.{MayHaveBegun, Names, dump_row}
 use Rattle.fd_cli.specs.Rows.Judge.{Judges, verdict_answer}
 use Rattle.fd_cli.specs.declared.answer.Answer.TheVariants.{Dump}
-use Rattle.fd_cli.specs.declared.source.Source.{Source}
+use Rattle.fd_words.specs.declared.source.Source.{Source}
 use Rattle.fd_cli.proofs.Dumps.{image_of}
 use Rattle.fd_cli.proofs.Outcomes.{IsWhole, whole_of_zero}
 
@@ -110,7 +110,7 @@ not_71 : (status : ℕ) → status ≡ 71 → status ≡ 0 → ⊥
 not_71 status is zero = omega (arith, is, zero)
 
 -- a call that ended with 0 was answered
-answered_zero : (row : Row) (old new : Outside) (status : ℕ) → Ends row old new status → status ≡ 0 → Answered row old new status
+pub answered_zero : (row : Row) (old new : Outside) (status : ℕ) → Ends row old new status → status ≡ 0 → Answered row old new status
 answered_zero row old new status (inl done) zero = done
 answered_zero row old new status (inr (inl done)) zero = absurd (not_74 status done.status_is zero)
 answered_zero row old new status (inr (inr (inl done))) zero = absurd (not_74 status done.status_is zero)

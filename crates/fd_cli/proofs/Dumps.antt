@@ -27,8 +27,8 @@ use Rattle.fd_cli.specs.declared.refusal.Refusal.TheVariants as refusal
 use Rattle.fd_cli.specs.declared.reply.Reply.{Reply}
 use Rattle.fd_cli.specs.declared.reply.Trouble.{Trouble}
 use Rattle.fd_cli.specs.declared.reply.Trouble.TheVariants.{Fault, NoMemory}
-use Rattle.fd_cli.specs.declared.source.Source.{Source}
-use Rattle.fd_cli.specs.declared.source.Source.TheVariants.{File, Made}
+use Rattle.fd_words.specs.declared.source.Source.{Source}
+use Rattle.fd_words.specs.declared.source.Source.TheVariants.{File, Made}
 use Rattle.fd_cli.proofs.Good.{on_false, on_true, over_bad, over_good}
 
 -- what a writer's answer says of no room

@@ -14,8 +14,8 @@ use Rattle.fd_cli.specs.Rows.Common.{OnGood, Refuses}
 use Rattle.fd_cli.specs.Rows.Dump.{ByImage, Dumps, DumpsSource, IsGiven, dump_row}
 use Rattle.fd_cli.specs.Rows.Judge.{Judges}
 use Rattle.fd_cli.specs.declared.refusal.Refusal.{Refusal}
-use Rattle.fd_cli.specs.declared.refusal.Refusal.TheVariants.{Judged, Address, NoFile, NotImage, BadImage, NoRoom, Partition, Mini, Short, BadAvail, NotCommand, NoNumber}
-use Rattle.fd_cli.specs.declared.source.Source.{Source}
+use Rattle.fd_cli.specs.declared.refusal.Refusal.TheVariants.{Judged, Address, NoFile, NotImage, BadImage, NoRoom, Partition, Mini, Short, BadAvail, NotCommand, NoNumber, NoAnswer, TurnsSpent}
+use Rattle.fd_words.specs.declared.source.Source.{Source}
 use Rattle.fd_cli.proofs.Good.{either}
 
 -- what is refused adds nothing
@@ -26,6 +26,7 @@ refused_adds_nothing refusal w is = ap (λ x. x.added) is
 not_zero : (refusal : Refusal) → status_of refusal ≡ 0 → ⊥
 not_zero (Judged why) zero = cc
 not_zero (Address fault) zero = cc
+not_zero (NoAnswer number) zero = cc
 not_zero NoFile zero = cc
 not_zero (NotImage place) zero = cc
 not_zero (BadImage bad) zero = cc
@@ -35,6 +36,7 @@ not_zero (Mini fault) zero = cc
 not_zero (Short need have) zero = cc
 not_zero (BadAvail index) zero = cc
 not_zero NotCommand zero = cc
+not_zero (TurnsSpent turns) zero = cc
 not_zero NoNumber zero = cc
 
 pub refused_not_zero : (refusal : Refusal) (w : Work) → Refuses refusal w → answer_status w.answer ≡ 0 → ⊥

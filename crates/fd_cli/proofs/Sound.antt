@@ -1,5 +1,5 @@
 -- What holds of every command's row.
-use Rattle.std.proofs.Common.{◌≡◌, ◌⊎◌, inl, inr, ℕ, Bool, List, [], Option, Some, None, refl, sym, ◌∙◌, ap, subst}
+use Rattle.std.proofs.Common.{◌≡◌, ◌⊎◌, inl, inr, ℕ, Bool, true, false, List, [], Option, Some, None, refl, sym, ◌∙◌, ap, subst}
 use Rattle.fd_bytes.specs.declared.arch.Arch.{Arch}
 use Rattle.fd_site.specs.Begun.{IsBegun}
 use Rattle.fd_site.specs.Seen.{Seen}
@@ -8,7 +8,7 @@ use Rattle.fd_dump.specs.Header.{header_of}
 use Rattle.fd_dump.specs.Minidump.{minidump_of}
 use Rattle.fd_part.proofs.WholeDump.{IsBegunDump-whole}
 use Rattle.fd_cli.specs.Ending.{Ends, answer_status}
-use Rattle.fd_cli.specs.Laws.{IsSound, OnlyDoneOrFailedAdds}
+use Rattle.fd_cli.specs.Laws.{AddsEntriesAlone, IsLocal, IsSound, OnlyDoneOrFailedAdds}
 use Rattle.fd_save.specs.Saving.{clearing}
 use Rattle.fd_save.specs.declared.saved.Options.{Options}
 use Rattle.fd_cli.specs.Row.{Added, Grew, Work, nothing, only}
@@ -17,9 +17,9 @@ use Rattle.fd_cli.specs.Rows.Dump.{HasBegun, MayHaveBegun, dump_row}
 use Rattle.fd_cli.specs.Rows.Clear.{MayHaveBegunToClear, clear_row}
 use Rattle.fd_cli.specs.Rows.Image.{image_row}
 use Rattle.fd_cli.specs.Rows.Save.{MayHaveBegunToSave, save_row}
-use Rattle.fd_cli.specs.declared.command.Command.{Command}
-use Rattle.fd_cli.specs.declared.command.Command.TheVariants as command
-use Rattle.fd_cli.specs.declared.source.Source.{Source}
+use Rattle.fd_words.specs.declared.command.Command.{Command}
+use Rattle.fd_words.specs.declared.command.Command.TheVariants as command
+use Rattle.fd_words.specs.declared.source.Source.{Source}
 use Rattle.fd_cli.proofs.Saves.{refused_or_cleared, refused_or_saved}
 use Rattle.fd_cli.proofs.Outcomes.{IsWhole, judge_adds_nothing, refused_adds_nothing, refused_or_whole}
 
@@ -31,6 +31,8 @@ may_be_silent (Some (command.Judge force)) found = refl
 may_be_silent (Some (command.Clear force)) found = refl
 may_be_silent (Some (command.Save options keep)) found = refl
 may_be_silent (Some (command.Dump source)) found = refl
+may_be_silent (Some (command.Netdump source server)) found = refl
+may_be_silent (Some (command.Netdumpd dumps)) found = refl
 may_be_silent (Some (command.Read name va count)) found = refl
 
 -- a whole dump was begun
@@ -89,55 +91,79 @@ save_leaves options keep found w does = elim (refused_or_saved options keep foun
   })
 ]
 
--- each row is sound
-pub sound : (command : Option Command) → IsSound (row_of command)
-sound None = record { whole = λ found w does. ap (λ x. x.added) does; starved = λ found added is. is; silent = λ found. refl }
-sound (Some (command.Image arch number file)) =
+no_bool : true ≡ false → ⊥
+no_bool is = cc
+
+-- each row that uses no network is sound
+pub sound : (command : Option Command) → IsLocal (row_of command) → IsSound (row_of command)
+sound None local = record { whole = λ found w does. ap (λ x. x.added) does; starved = λ found added is. is; silent = λ found. refl }
+sound (Some (command.Image arch number file)) local =
     record { whole = image_leaves arch number file; starved = λ found added is. inl is; silent = λ found. refl }
-sound (Some (command.Clear force)) = record { whole = clear_leaves force; starved = λ found added is. inl is; silent = λ found. refl }
-sound (Some (command.Save options keep)) = record { whole = save_leaves options keep; starved = λ found added is. inl is; silent = λ found. refl }
-sound (Some (command.Judge force)) = record { whole = judge_adds_nothing force; starved = λ found added is. is; silent = λ found. refl }
-sound (Some (command.Dump source)) = record { whole = dump_leaves source; starved = λ found added is. inl is; silent = λ found. refl }
-sound (Some (command.Read name va count)) =
+sound (Some (command.Clear force)) local = record { whole = clear_leaves force; starved = λ found added is. inl is; silent = λ found. refl }
+sound (Some (command.Save options keep)) local = record { whole = save_leaves options keep; starved = λ found added is. inl is; silent = λ found. refl }
+sound (Some (command.Judge force)) local = record { whole = judge_adds_nothing force; starved = λ found added is. is; silent = λ found. refl }
+sound (Some (command.Dump source)) local = record { whole = dump_leaves source; starved = λ found added is. inl is; silent = λ found. refl }
+sound (Some (command.Netdump source server)) local = absurd (no_bool local.0)
+sound (Some (command.Netdumpd dumps)) local = absurd (no_bool local.1)
+sound (Some (command.Read name va count)) local =
     record { whole = λ found w does. ap (λ x. x.added) does.1; starved = λ found added is. is; silent = λ found. refl }
 
 -- a command whose work adds something ends with 0
-adds_with_zero : (command : Option Command) (found : Seen) (w : Work) → (row_of command).Does found w → (answer_status w.answer ≡ 0) ⊎ (w.added ≡ nothing)
-adds_with_zero None found w does = inr (ap (λ x. x.added) does)
-adds_with_zero (Some (command.Image arch number file)) found w does = inl (ap answer_status does.answer)
-adds_with_zero (Some (command.Judge force)) found w does = inr (judge_adds_nothing force found w does)
-adds_with_zero (Some (command.Clear force)) found w does = elim (refused_or_cleared force found w does) [
+adds_with_zero : (command : Option Command) (found : Seen) (w : Work) → IsLocal (row_of command) → (row_of command).Does found w → (answer_status w.answer ≡ 0) ⊎ (w.added ≡ nothing)
+adds_with_zero None found w local does = inr (ap (λ x. x.added) does)
+adds_with_zero (Some (command.Image arch number file)) found w local does = inl (ap answer_status does.answer)
+adds_with_zero (Some (command.Judge force)) found w local does = inr (judge_adds_nothing force found w does)
+adds_with_zero (Some (command.Clear force)) found w local does = elim (refused_or_cleared force found w does) [
   | inl refused ↦ inr (refused_adds_nothing refused.0 w refused.1)
   | inr cleared ↦ inl (ap (λ x. answer_status x.answer) cleared.1.is)
 ]
-adds_with_zero (Some (command.Save options keep)) found w does = elim (refused_or_saved options keep found w does) [
+adds_with_zero (Some (command.Save options keep)) found w local does = elim (refused_or_saved options keep found w does) [
   | inl refused ↦ inr (refused_adds_nothing refused.0 w refused.1)
   | inr saved ↦ inl (ap answer_status saved.1.answer)
 ]
-adds_with_zero (Some (command.Dump source)) found w does = elim (refused_or_whole source found w does) [
+adds_with_zero (Some (command.Dump source)) found w local does = elim (refused_or_whole source found w does) [
   | inl refused ↦ inr (refused_adds_nothing refused.0 w refused.1)
   | inr whole ↦ inl (ap answer_status whole.dumps.answer)
 ]
-adds_with_zero (Some (command.Read name va count)) found w does = inr (ap (λ x. x.added) does.1)
+adds_with_zero (Some (command.Netdump source server)) found w local does = absurd (no_bool local.0)
+adds_with_zero (Some (command.Netdumpd dumps)) found w local does = absurd (no_bool local.1)
+adds_with_zero (Some (command.Read name va count)) found w local does = inr (ap (λ x. x.added) does.1)
 
-starves_with_nothing : (command : Option Command) (found : Seen) (added : Added) → (row_of command).Starves found added → added ≡ nothing
-starves_with_nothing None found added is = is
-starves_with_nothing (Some (command.Image arch number file)) found added is = is
-starves_with_nothing (Some (command.Judge force)) found added is = is
-starves_with_nothing (Some (command.Clear force)) found added is = is
-starves_with_nothing (Some (command.Save options keep)) found added is = is
-starves_with_nothing (Some (command.Dump source)) found added is = is
-starves_with_nothing (Some (command.Read name va count)) found added is = is
+starves_with_nothing : (command : Option Command) (found : Seen) (added : Added) → IsLocal (row_of command) → (row_of command).Starves found added → added ≡ nothing
+starves_with_nothing None found added local is = is
+starves_with_nothing (Some (command.Image arch number file)) found added local is = is
+starves_with_nothing (Some (command.Judge force)) found added local is = is
+starves_with_nothing (Some (command.Clear force)) found added local is = is
+starves_with_nothing (Some (command.Save options keep)) found added local is = is
+starves_with_nothing (Some (command.Dump source)) found added local is = is
+starves_with_nothing (Some (command.Netdump source server)) found added local is = is
+starves_with_nothing (Some (command.Netdumpd dumps)) found added local is = absurd (no_bool local.1)
+starves_with_nothing (Some (command.Read name va count)) found added local is = is
 
 pub only_done_or_failed_adds : OnlyDoneOrFailedAdds
-only_done_or_failed_adds command old new status call = by_ending call.ends
+only_done_or_failed_adds command old new status local call = by_ending call.ends
   where
     by_ending : Ends (row_of command) old new status → (status ≡ 0) ⊎ ((status ≡ 74) ⊎ Grew old.reach new.reach nothing)
-    by_ending (inl done) = elim (adds_with_zero command old.reach.site done.work done.does) [
+    by_ending (inl done) = elim (adds_with_zero command old.reach.site done.work local done.does) [
       | inl zero ↦ inl (done.status_is ∙ zero)
       | inr none ↦ inr (inr (subst (Grew old.reach new.reach) none done.grew))
     ]
     by_ending (inr (inl done)) = inr (inl done.status_is)
     by_ending (inr (inr (inl done))) = inr (inl done.status_is)
     by_ending (inr (inr (inr done))) =
-        inr (inr (subst (Grew old.reach new.reach) (starves_with_nothing command old.reach.site done.added done.starves) done.grew))
+        inr (inr (subst (Grew old.reach new.reach) (starves_with_nothing command old.reach.site done.added local done.starves) done.grew))
+
+-- nothing is no entries
+none_alone : (added : Added) → added ≡ nothing → added ≡ only added.entries
+none_alone added is = subst (λ (a : Added). a ≡ only a.entries) (sym is) refl
+
+pub adds_entries_alone : AddsEntriesAlone
+adds_entries_alone None found added local left = none_alone added left
+adds_entries_alone (Some (command.Image arch number file)) found added local left = elim left [ inl none ↦ none_alone added none | inr begun ↦ begun.alone ]
+adds_entries_alone (Some (command.Judge force)) found added local left = none_alone added left
+adds_entries_alone (Some (command.Clear force)) found added local left = elim left [ inl none ↦ none_alone added none | inr begun ↦ begun.alone ]
+adds_entries_alone (Some (command.Save options keep)) found added local left = elim left [ inl none ↦ none_alone added none | inr begun ↦ begun.alone ]
+adds_entries_alone (Some (command.Dump source)) found added local left = elim left [ inl none ↦ none_alone added none | inr begun ↦ begun.2.alone ]
+adds_entries_alone (Some (command.Netdump source server)) found added local left = absurd (no_bool local.0)
+adds_entries_alone (Some (command.Netdumpd dumps)) found added local left = absurd (no_bool local.1)
+adds_entries_alone (Some (command.Read name va count)) found added local left = none_alone added left

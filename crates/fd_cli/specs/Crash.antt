@@ -16,7 +16,7 @@ use Rattle.fd_save.specs.Number.{IsNumberOf}
 use Rattle.fd_save.specs.Saving.{parity_of}
 use Rattle.fd_save.specs.declared.saved.Options.{Options}
 use Rattle.fd_cli.specs.Rows.Dump.{Names}
-use Rattle.fd_cli.specs.declared.source.Source.{Source}
+use Rattle.fd_words.specs.declared.source.Source.{Source}
 
 -- a partition is refused, or is judged a dump of the image that its source named: its header and its minidump
 abbrev pub IsRefusedOrNamed : Contents → Source → (block : ℕ) → List ℕ → Type 0

@@ -2,13 +2,15 @@
 use Rattle.std.specs.Prelude.{◌≡◌, ◌⊎◌, ℕ, ◌+◌, ◌^◌, ◌≤◌, List, [], ◌∷◌, ◌++◌, length, take, codes}
 use Rattle.std.specs.Fmt.{decimal}
 use Rattle.fd_site.specs.Fault.{Rose}
-use Rattle.fd_site.specs.Trace.{grown}
+use Rattle.fd_site.specs.Seen.{Seen, Watched}
+use Rattle.fd_site.specs.Trace.{LinkEvent, PortsEvent, grown}
 use Rattle.fd_info.specs.Name.{vmcore_name}
 use Rattle.fd_way.specs.ReadText.{read_text}
-use Rattle.fd_cli.specs.Refusal.{line_of, status_of}
-use Rattle.fd_cli.specs.Row.{Added, FaultRose, Grew, Kept, Outside, Row, Work}
+use Rattle.fd_cli.specs.Received.{report_of}
+use Rattle.fd_cli.specs.Refusal.{line_of, spent_status_of, status_of}
+use Rattle.fd_cli.specs.Row.{Added, FaultRose, Grew, Kept, Outside, Row, Work, outside}
 use Rattle.fd_cli.specs.declared.answer.Answer.{Answer}
-use Rattle.fd_cli.specs.declared.answer.Answer.TheVariants.{Made, Dump, Dumped, Cleared, Saved, Read, Refused}
+use Rattle.fd_cli.specs.declared.answer.Answer.TheVariants.{Made, Dump, Dumped, Cleared, Saved, Sent, Received, Read, Refused}
 
 -- a line, with its newline
 abbrev pub line : List ℕ → List ℕ
@@ -21,6 +23,8 @@ answer_text (Dump len) = line (codes "dump " ++ decimal len)
 answer_text (Dumped len) = line (codes "dumped " ++ decimal len)
 answer_text Cleared = line (codes "cleared")
 answer_text (Saved number len) = line (codes "saved " ++ (vmcore_name number ++ (codes " " ++ decimal len)))
+answer_text (Sent len last) = line (codes "sent " ++ (decimal len ++ (codes " " ++ decimal last)))
+answer_text (Received sessions spent) = report_of sessions spent
 answer_text (Read address bytes) = read_text address bytes
 answer_text (Refused refusal) = line (line_of refusal)
 
@@ -30,6 +34,8 @@ answer_status (Dump len) = 0
 answer_status (Dumped len) = 0
 answer_status Cleared = 0
 answer_status (Saved number len) = 0
+answer_status (Sent len last) = 0
+answer_status (Received sessions spent) = spent_status_of spent
 answer_status (Read address bytes) = 0
 answer_status (Refused refusal) = status_of refusal
 
@@ -83,12 +89,19 @@ pub record Call (row : Row) (old new : Outside) (status : ℕ) : Type 0 where
   pub kept : Kept row.blames old.reach new.reach
   pub sink : old.sink.faults ≤ new.sink.faults
 
--- a file's name in it has at most 64 bytes, and the bytes that were read end at 2^64 or below
+-- a call of a command that touches neither the link nor the ports
+abbrev pub CallOnSite : Row → (old new : Seen) → (sink printed : Watched ℕ) → ℕ → Type 0
+CallOnSite row old new sink printed status =
+    (link : Watched LinkEvent) → (ports : Watched PortsEvent) → Call row (outside old link ports sink) (outside new link ports printed) status
+
+-- a file's name in it has at most 64 bytes, there are at most 16 sessions, and the bytes that were read end at 2^64 or below
 abbrev pub IsPrintable : Answer → Type 0
 IsPrintable (Made file len) = length file ≤ 64
 IsPrintable (Dump len) = Unit {0}
 IsPrintable (Dumped len) = Unit {0}
 IsPrintable Cleared = Unit {0}
 IsPrintable (Saved number len) = Unit {0}
+IsPrintable (Sent len last) = Unit {0}
+IsPrintable (Received sessions spent) = length sessions ≤ 16
 IsPrintable (Read address bytes) = address + length bytes ≤ 2 ^ 64
 IsPrintable (Refused refusal) = Unit {0}

@@ -1,13 +1,16 @@
 -- Laws over rows: what holds of every row, and what follows where calls come one after another.
-use Rattle.std.specs.Prelude.{◌≡◌, ◌⊎◌, ℕ, ◌≤◌, Bool, false, List, [], length, Option, Some, None}
+use Rattle.std.specs.Prelude.{◌≡◌, ◌⊎◌, ℕ, ◌≤◌, Bool, false, List, [], length, Option, Some, None, Ok}
 use Rattle.fd_site.specs.Contents.{Contents, Told, part_of, with_entries}
 use Rattle.fd_site.specs.Cut.{Disk, EachCutOf, IsCut}
 use Rattle.fd_site.specs.Seen.{Seen}
+use Rattle.fd_site.specs.Trace.{LinkEvent}
 use Rattle.fd_image.specs.Image.{MachineImage}
 use Rattle.fd_kdh.specs.Header.{dump_header}
 use Rattle.fd_dump.specs.Header.{header_of}
 use Rattle.fd_dump.specs.KernelRead.{kernel_read}
 use Rattle.fd_dump.specs.Minidump.{minidump_of}
+use Rattle.fd_netclient.specs.Trace.{IsClientRun}
+use Rattle.fd_netserver.specs.Session.{Turn}
 use Rattle.fd_part.specs.Partition.{IsClear}
 use Rattle.fd_info.specs.Name.{vmcore_name}
 use Rattle.fd_info.specs.Saved.{IsSaved}
@@ -16,24 +19,31 @@ use Rattle.fd_save.specs.declared.saved.Options.{Options}
 use Rattle.fd_judge.specs.declared.why.Why.TheVariants.{Cleared}
 use Rattle.fd_cli.specs.Crash.{IsCutOfDump, IsCutOfSavecore, LeavesSavedFiles}
 use Rattle.fd_cli.specs.Ending.{Call, answer_status}
-use Rattle.fd_cli.specs.Row.{Added, Grew, Outside, Row, Work, nothing}
+use Rattle.fd_cli.specs.Row.{Added, Grew, Outside, Row, Work, nothing, only}
 use Rattle.fd_cli.specs.Rows.{row_of}
-use Rattle.fd_cli.specs.Rows.Dump.{Names, dump_row}
+use Rattle.fd_cli.specs.Rows.Dump.{IsGiven, Names, dump_row}
 use Rattle.fd_cli.specs.Rows.Common.{Refuses}
+use Rattle.fd_cli.specs.Delivered.{HasTurns, IsImageKept, IsKeptByCalls}
 use Rattle.fd_cli.specs.Rows.Judge.{judge_row}
+use Rattle.fd_cli.specs.Rows.Netdump.{netdump_row, sent_to, usual}
+use Rattle.fd_cli.specs.Rows.Netdumpd.{netdumpd_row}
 use Rattle.fd_cli.specs.Rows.Read.{bytes_answer, read_row}
 use Rattle.fd_cli.specs.Rows.Save.{save_row}
 use Rattle.fd_cli.specs.declared.answer.Answer.TheVariants.{Dump, Saved}
-use Rattle.fd_cli.specs.declared.command.Command.{Command}
+use Rattle.fd_words.specs.declared.command.Command.{Command}
 use Rattle.fd_cli.specs.declared.refusal.Refusal.{Refusal}
 use Rattle.fd_cli.specs.declared.refusal.Refusal.TheVariants.{Judged}
-use Rattle.fd_cli.specs.declared.source.Source.{Source}
+use Rattle.fd_words.specs.declared.source.Source.{Source}
 
 -- whatever a row's work was, it left what the row may leave; and it may end without a word
 pub record IsSound (row : Row) : Type 0 where
   pub whole : (found : Seen) (w : Work) → row.Does found w → row.Leaves found w.added
   pub starved : (found : Seen) (added : Added) → row.Starves found added → row.Leaves found added
   pub silent : (found : Seen) → row.Says found []
+
+-- the row of commands that use no network
+abbrev pub IsLocal : Row → Type 0
+IsLocal row = (row.blames.link ≡ false) × (row.blames.ports ≡ false)
 
 -- what a row leaves over what was found, and the site then tells
 pub record Left (row : Row) (found : Seen) (new : Option Contents) : Type 0 where
@@ -49,10 +59,10 @@ pub record Refines (found : Seen) (row other : Row) : Type 0 where
   pub says : (text : List ℕ) → row.Says found text → other.Says found text
   pub blames : row.blames ≡ other.blames
 
--- a call of today's commands that ended with another status than 0 or 74 added nothing
+-- a call that uses no network, and ended with another status than 0 or 74, added nothing
 abbrev pub OnlyDoneOrFailedAdds : Type 0
 OnlyDoneOrFailedAdds =
-    (command : Option Command) (old new : Outside) (status : ℕ) → Call (row_of command) old new status
+    (command : Option Command) (old new : Outside) (status : ℕ) → IsLocal (row_of command) → Call (row_of command) old new status
     → (status ≡ 0) ⊎ ((status ≡ 74) ⊎ Grew old.reach new.reach nothing)
 
 -- what a call finds that comes next
@@ -126,6 +136,48 @@ abbrev pub EachSavedFileIsLeft : Type 0
 EachSavedFileIsLeft =
     (options : Options) (keep : Bool) (found : Seen) (new : Option Contents) → options.max ≡ None → IsSized found
     → Left (save_row options keep) found new → LeavesSavedFiles found.told new
+
+-- a command that uses no network adds entries to the site's journal, and nothing else
+abbrev pub AddsEntriesAlone : Type 0
+AddsEntriesAlone =
+    (command : Option Command) (found : Seen) (added : Added) → IsLocal (row_of command) → (row_of command).Leaves found added → added ≡ only added.entries
+
+-- nothing was added, or a link was opened to a server, and had a client run of the image that a source names
+abbrev pub MayHaveRun : Source → (server : ℕ) → Seen → Added → Type 0
+MayHaveRun source server found added =
+    (added ≡ nothing)
+    ⊎ ((m : MachineImage) × IsGiven source found (Ok m)
+    × ((trace : List LinkEvent) × IsClientRun (minidump_of m) (header_of m 512) usual trace × (added ≡ sent_to server trace)))
+
+-- however a `netdump` ended
+pub record IsRunAlways (source : Source) (server : ℕ) : Type 0 where
+  pub whole : (found : Seen) (w : Work) → (netdump_row source server).Does found w → MayHaveRun source server found w.added
+  pub left : (found : Seen) (added : Added) → (netdump_row source server).Leaves found added → MayHaveRun source server found added
+  pub starved : (found : Seen) (added : Added) → (netdump_row source server).Starves found added → MayHaveRun source server found added
+
+-- nothing was added, or ports listened and had turns of a server
+abbrev pub MayHaveTurns : Seen → Added → Type 0
+MayHaveTurns found added = (added ≡ nothing) ⊎ ((turns : List Turn) × HasTurns found added turns)
+
+-- however a `netdumpd` ended
+pub record HasTurnsAlways (dumps : ℕ) : Type 0 where
+  pub whole : (found : Seen) (w : Work) → (netdumpd_row dumps).Does found w → MayHaveTurns found w.added
+  pub left : (found : Seen) (added : Added) → (netdumpd_row dumps).Leaves found added → MayHaveTurns found added
+  pub starved : (found : Seen) (added : Added) → (netdumpd_row dumps).Starves found added → MayHaveTurns found added
+
+-- a `netdump` that ended with 0, and calls of `netdumpd` that its datagrams came to
+abbrev pub EachNetdumpIsReceived : Type 0
+EachNetdumpIsReceived =
+    (source : Source) (server : ℕ) (found : Seen) (w : Work) → (netdump_row source server).Does found w → answer_status w.answer ≡ 0
+    → (trace : List LinkEvent) × (w.added ≡ sent_to server trace)
+    × Told found.told (λ c. (m : MachineImage) × Names c source m × IsKeptByCalls m trace)
+
+-- a `netdump` that ended with 0 opened a link and then had a trace by which the servers keep the dump of the image that its
+-- source named
+abbrev pub EachNetdumpIsDelivered : Type 0
+EachNetdumpIsDelivered =
+    (source : Source) (server : ℕ) (found : Seen) (w : Work) → (netdump_row source server).Does found w → answer_status w.answer ≡ 0
+    → (trace : List LinkEvent) × (w.added ≡ sent_to server trace) × Told found.told (λ c. IsImageKept c source trace)
 
 -- after a `savecore` that saved a dump and didn't keep it, one without force is refused: the dump is cleared
 abbrev pub ClearedIsRefused : Type 0

@@ -1,11 +1,10 @@
-pub mod Command
 pub mod Crash
+pub mod Delivered
 pub mod Ending
 pub mod Invocation
 pub mod Laws
+pub mod Received
 pub mod Refusal
 pub mod Reply
 pub mod Row
 pub mod Rows
-pub mod Savecore
-pub mod Source

@@ -10,17 +10,23 @@ use Rattle.fd_cli.specs.declared.reply.Reply.{Reply}
 use Rattle.fd_cli.specs.declared.reply.Trouble.{Trouble}
 use Rattle.fd_cli.specs.declared.reply.Trouble.TheVariants.{Fault, NoMemory}
 use Rattle.fd_cli.specs.declared.text.Text.{Text}
-use Rattle.fd_cli.specs.declared.text.Text.TheVariants.{Line, Lines}
+use Rattle.fd_cli.specs.declared.text.Text.TheVariants.{Line, Lines, Report}
 
 -- what is printed, as its bytes
 abbrev pub text_bytes : Text → List ℕ
 text_bytes (Lines lines) = lines.items
 text_bytes (Line line) = line.bytes
+text_bytes (Report report) = report.bytes
 
 -- the text and the status of an answer
 pub record IsReplyOf (answer : Answer) (reply : Reply) : Type 0 where
   pub status : reply.status ≡ answer_status answer
   pub text : text_bytes reply.text ≡ answer_text answer
+
+-- the status where there is none
+abbrev pub trouble_status : Trouble → ℕ
+trouble_status Fault = 74
+trouble_status NoMemory = 71
 
 -- a row's work was done, and the reply has its answer
 pub record Replies (row : Row) (old new : Reach) (reply : Reply) : Type 0 where

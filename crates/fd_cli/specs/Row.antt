@@ -1,5 +1,5 @@
 -- What a call of the program is handed, what it adds to that, and what a command's row says of it.
-use Rattle.std.specs.Prelude.{◌≡◌, ◌⊎◌, ℕ, ◌≤◌, Bool, IsTrue, List, []}
+use Rattle.std.specs.Prelude.{◌≡◌, ◌⊎◌, ℕ, ◌≤◌, Bool, false, ◌||◌, IsTrue, List, []}
 use Rattle.std.specs.Bool.{OnFalse}
 use Rattle.fd_site.specs.Contents.{with_entries}
 use Rattle.fd_site.specs.Fault.{Rose}
@@ -25,35 +25,43 @@ pub record Outside : Type 0 where
 abbrev pub outside : Seen → Watched LinkEvent → Watched PortsEvent → Watched ℕ → Outside
 outside site link ports sink = record { reach = reach site link ports; sink = sink }
 
--- what a call adds: entries to the site's journal, events to the link's trace and to the ports'
+-- What a call adds: entries to the site's journal, events to the link's trace and to the ports'. And whether the site failed
+-- meanwhile, and the work went on.
 pub record Added : Type 0 where
   pub entries : List Entry
   pub trace : List LinkEvent
   pub served : List PortsEvent
+  pub spared : Bool
 
 abbrev pub nothing : Added
-nothing = record { entries = []; trace = []; served = [] }
+nothing = record { entries = []; trace = []; served = []; spared = false }
 
 -- entries of the journal alone
 abbrev pub only : List Entry → Added
-only entries = record { entries = entries; trace = []; served = [] }
+only entries = record { entries = entries; trace = []; served = []; spared = false }
 
--- what is told grew by this, and by nothing else
+-- the events of a link alone
+abbrev pub on_link : List LinkEvent → Added
+on_link trace = record { entries = []; trace = trace; served = []; spared = false }
+
+-- what is told grew by this, and by nothing else; and the site failed where that is said
 pub record Grew (old new : Reach) (added : Added) : Type 0 where
   pub site : new.site.told ≡ with_entries old.site.told added.entries
   pub link : new.link.told ≡ grown old.link.told added.trace
   pub ports : new.ports.told ≡ grown old.ports.told added.served
+  pub spared : IsTrue added.spared → Rose old.site.faults new.site.faults
 
 -- a command's whole work
 pub record Work : Type 0 where
   pub answer : Answer
   pub added : Added
 
--- whose faults may end a command's work, beside the sink's
+-- whose faults may end a command's work, beside the sink's; and whether it goes on after faults of the site
 pub record Blamed : Type 0 where
   pub site : Bool
   pub link : Bool
   pub ports : Bool
+  pub spares : Bool
 
 -- one of these has failed
 abbrev pub FaultRose : Blamed → (old new : Reach) → Type 0
@@ -61,12 +69,12 @@ FaultRose blamed old new =
     (IsTrue blamed.site × Rose old.site.faults new.site.faults)
     ⊎ ((IsTrue blamed.link × Rose old.link.faults new.link.faults) ⊎ (IsTrue blamed.ports × Rose old.ports.faults new.ports.faults))
 
--- what each call keeps: the site's sizes stay, no count of faults falls, and what isn't blamed has not failed
+-- what each call keeps: the site's sizes stay, no count of faults falls, and what is neither blamed nor spared has not failed
 pub record Kept (blamed : Blamed) (old new : Reach) : Type 0 where
   pub site : Frame old.site new.site
   pub link : old.link.faults ≤ new.link.faults
   pub ports : old.ports.faults ≤ new.ports.faults
-  pub quiet_site : OnFalse blamed.site (new.site.faults ≡ old.site.faults)
+  pub quiet_site : OnFalse (blamed.site || blamed.spares) (new.site.faults ≡ old.site.faults)
   pub quiet_link : OnFalse blamed.link (new.link.faults ≡ old.link.faults)
   pub quiet_ports : OnFalse blamed.ports (new.ports.faults ≡ old.ports.faults)
 

@@ -6,10 +6,12 @@ use Rattle.fd_cli.specs.Rows.Common.{AddsNothing, Refuses, SaysNothing, no_fault
 use Rattle.fd_cli.specs.Rows.Dump.{dump_row}
 use Rattle.fd_cli.specs.Rows.Image.{image_row}
 use Rattle.fd_cli.specs.Rows.Judge.{judge_row}
+use Rattle.fd_cli.specs.Rows.Netdump.{netdump_row}
+use Rattle.fd_cli.specs.Rows.Netdumpd.{netdumpd_row}
 use Rattle.fd_cli.specs.Rows.Read.{read_row}
 use Rattle.fd_cli.specs.Rows.Save.{save_row}
-use Rattle.fd_cli.specs.declared.command.Command.{Command}
-use Rattle.fd_cli.specs.declared.command.Command.TheVariants as command
+use Rattle.fd_words.specs.declared.command.Command.{Command}
+use Rattle.fd_words.specs.declared.command.Command.TheVariants as command
 use Rattle.fd_cli.specs.declared.refusal.Refusal.TheVariants.{NotCommand}
 pub mod Clear
 pub mod Common
@@ -17,6 +19,8 @@ pub mod Dump
 pub mod Image
 pub mod ImageRead
 pub mod Judge
+pub mod Netdump
+pub mod Netdumpd
 pub mod Read
 pub mod Save
 
@@ -37,4 +41,6 @@ row_of (Some (command.Judge force)) = judge_row force
 row_of (Some (command.Clear force)) = clear_row force
 row_of (Some (command.Save options keep)) = save_row options keep
 row_of (Some (command.Dump source)) = dump_row source
+row_of (Some (command.Netdump source server)) = netdump_row source server
+row_of (Some (command.Netdumpd dumps)) = netdumpd_row dumps
 row_of (Some (command.Read name va count)) = read_row name va count

@@ -8,19 +8,19 @@ ghost use Rattle.fd_imgfile.specs.declared.fault.ImageFault.TheVariants.{SiteFau
 ghost use Rattle.fd_part.specs.Partition.{is_good};
 ghost use Rattle.fd_cli.specs.Reply.{IsReplyOf, WorksOnSite};
 ghost use Rattle.fd_cli.specs.Rows.Dump.{dump_row, image_dump_row, IsGiven, RefusesImage};
-ghost use Rattle.fd_cli.specs.Source.{HasGoodName};
+ghost use Rattle.fd_words.specs.Source.{HasGoodName};
 ghost use Rattle.fd_cli.specs.declared.answer.Answer.TheVariants.{Refused};
 
 use crate::answer::Answer;
 use crate::refusal::Refusal;
 use crate::reply::{Reply, Trouble};
-use crate::source::Source;
 use fd_dump::Plan;
 use fd_gen::make;
 use fd_image::Image;
 use fd_imgfile::{ImageFault, read_image};
 use fd_part::{BadPartition, PartFault, good_partition, write_dump};
 use fd_site::Site;
+use fd_words::Source;
 use std::alloc::{AllocError, Global};
 
 // The reply to something that is refused.
@@ -30,8 +30,8 @@ fn refuse(alloc: Global, refusal: Refusal) -> Result<Reply, AllocError>
     Reply::new(alloc, &Answer::Refused(refusal))
 }
 
-// The reply to an image that wasn't given.
-fn refuse_image(alloc: Global, fault: ImageFault) -> Result<Reply, Trouble>
+/// The reply to an image that wasn't given.
+pub(crate) fn refuse_image(alloc: Global, fault: ImageFault) -> Result<Reply, Trouble>
     ensures answer { RefusesImage fault result }
     ensures cause { IsErrOf result Trouble.Fault → fault ≡ SiteFault }
 {
@@ -77,8 +77,12 @@ fn write_plan<S: Site>(
     }
 }
 
-// The image that a source gives.
-fn take_image<S: Site>(alloc: Global, site: &mut S, source: &Source) -> Result<Image, ImageFault>
+/// The image that a source gives.
+pub(crate) fn take_image<S: Site>(
+    alloc: Global,
+    site: &mut S,
+    source: &Source,
+) -> Result<Image, ImageFault>
     requires { HasGoodName source.now }
     ensures given { IsGiven source.now (S.seen site.old) result }
     ensures untouched { Untouched (S.seen site.old) (S.seen site.new) }

@@ -5,8 +5,8 @@ ghost use Rattle.std.specs.Option.{option_map};
 ghost use Rattle.std.specs.String.{string_bytes};
 ghost use Rattle.fd_cli.specs.Invocation.{block_of, invocation_of, invoked};
 
-use crate::word::Word;
 use fd_bytes::read_number;
+use fd_words::Word;
 use std::alloc::{AllocError, Global};
 
 /// What the program's words name: the directory of the files, the size of a block in bytes, and the command's words.

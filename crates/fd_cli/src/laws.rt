@@ -1,19 +1,21 @@
 //! What follows from the rows of the commands alone.
 
-ghost use Rattle.std.specs.Prelude.{Option};
-ghost use Rattle.fd_cli.specs.Laws.{ClearedIsRefused, EachCutDumpIsSavedWhole, EachDumpIsSafe, EachSavecoreIsSafe, EachSavedFileIsLeft, IsSound, JudgeFindsDump, OnlyDoneOrFailedAdds, ReadsWhatWasDumped};
+ghost use Rattle.std.specs.Prelude.{ℕ, Option};
+ghost use Rattle.fd_cli.specs.Laws.{AddsEntriesAlone, ClearedIsRefused, EachCutDumpIsSavedWhole, EachDumpIsSafe, EachNetdumpIsDelivered, EachNetdumpIsReceived, EachSavecoreIsSafe, EachSavedFileIsLeft, HasTurnsAlways, IsLocal, IsRunAlways, IsSound, JudgeFindsDump, OnlyDoneOrFailedAdds, ReadsWhatWasDumped};
 ghost use Rattle.fd_cli.specs.Rows.{row_of};
-ghost use Rattle.fd_cli.specs.declared.command.Command.{Command};
+ghost use Rattle.fd_words.specs.declared.command.Command.{Command};
+ghost use Rattle.fd_words.specs.declared.source.Source.{Source};
 
+use fd_networld::laws::a_done_client_was_served;
 use fd_save::laws::{each_cut_of_a_save_is_safe, each_save_is_saved, no_saved_file_is_touched};
 use fd_way::laws::each_read_of_a_minidump_is_the_images;
 
-/// However a command ends, what it added is what its row leaves.
+/// However a command ends that uses no network, what it added is what its row leaves.
 pub fn each_row_is_sound()
-    ensures { (command : Option Command) → IsSound (row_of command) }
+    ensures { (command : Option Command) → IsLocal (row_of command) → IsSound (row_of command) }
 {}
 
-/// A call that ended with another status than 0 or 74 added nothing.
+/// A call that uses no network, and ended with another status than 0 or 74, added nothing.
 pub fn only_done_or_failed_calls_add()
     ensures { OnlyDoneOrFailedAdds }
 {}
@@ -63,3 +65,33 @@ pub fn each_saved_file_is_left()
 pub fn each_cleared_dump_is_refused()
     ensures { ClearedIsRefused }
 {}
+
+/// A command that uses no network adds nothing to the link's trace, nothing to the ports', and no fault of the site is spared.
+pub fn others_add_entries_alone()
+    ensures { AddsEntriesAlone }
+{}
+
+/// However a `netdump` ends, it added nothing, or it opened the link to the server and had a client run of the image's dump.
+pub fn each_netdump_is_a_run()
+    ensures { (source : Source) (server : ℕ) → IsRunAlways source server }
+{}
+
+/// The headline's second sentence: whatever the network loses, repeats or reorders, a `netdump` ends with 0 only where a server
+/// keeps the image's minidump, in files that are stable from then on.
+pub fn each_netdump_is_delivered()
+    ensures { EachNetdumpIsDelivered }
+{
+    a_done_client_was_served();
+}
+
+/// However a `netdumpd` ends, it added nothing, or its ports listened and had turns of a server, whose entries the site has.
+pub fn each_netdumpd_has_turns()
+    ensures { (dumps : ℕ) → HasTurnsAlways dumps }
+{}
+
+/// The same of the two commands: where calls of `netdumpd` over one site had the turns, they keep the image's minidump.
+pub fn each_netdump_is_received()
+    ensures { EachNetdumpIsReceived }
+{
+    a_done_client_was_served();
+}

@@ -4,27 +4,24 @@
 #![tactic(auto)]
 
 mod answer;
-mod command;
 mod dump_image;
 mod invocation;
 mod judge_partition;
 pub mod laws;
 mod make_image;
-mod read_memory;
+mod netdump;
+mod netdumpd;
+mod print_memory;
+mod print_reply;
 mod refusal;
 mod reply;
 mod run;
 mod save_dump;
-mod savecore;
-mod source;
 pub mod status;
 mod text;
-mod word;
 
 pub use answer::Answer;
-pub use command::Command;
+pub use fd_words::{Command, Source, Word};
 pub use invocation::{Invocation, read_invocation};
 pub use refusal::Refusal;
 pub use run::crashway;
-pub use source::Source;
-pub use word::Word;

@@ -9,11 +9,11 @@ ghost use Rattle.fd_cli.specs.Rows.Image.{image_row};
 
 use crate::reply::{Reply, Trouble};
 use crate::text::image_line;
-use crate::word::Word;
 use fd_bytes::Arch;
 use fd_gen::make;
 use fd_imgfile::write_image;
 use fd_site::{Site, SiteFault};
+use fd_words::Word;
 use std::alloc::Global;
 
 /// `image ARCH NUMBER FILE`: writes the image that is made of a number. All memory is taken before the first write.

@@ -5,6 +5,8 @@
 #[cfg(test)]
 mod crowded;
 #[cfg(test)]
+mod drills;
+#[cfg(test)]
 mod dumps;
 #[cfg(test)]
 mod fields;
@@ -12,6 +14,8 @@ mod fields;
 mod image_files;
 #[cfg(test)]
 mod images;
+#[cfg(test)]
+mod networks;
 #[cfg(test)]
 mod partitions;
 #[cfg(test)]

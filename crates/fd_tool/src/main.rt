@@ -6,7 +6,7 @@
 ghost use Rattle.std.specs.Prelude.{◌≡◌, ◌≢◌};
 ghost use Rattle.std.specs.Process.{exit_status};
 ghost use Rattle.std.specs.IoError.{error_kind};
-ghost use Rattle.fd_cli.specs.Command.{command_of};
+ghost use Rattle.fd_words.specs.Command.{command_of};
 ghost use Rattle.fd_cli.specs.Ending.{Call};
 ghost use Rattle.fd_cli.specs.Row.{Reach, outside};
 ghost use Rattle.fd_cli.specs.Rows.{no_command_row, row_of};

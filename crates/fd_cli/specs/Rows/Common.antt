@@ -30,11 +30,11 @@ SaysNothing found text = text ≡ []
 
 -- no fault ends it
 abbrev pub no_fault : Blamed
-no_fault = record { site = false; link = false; ports = false }
+no_fault = record { site = false; link = false; ports = false; spares = false }
 
 -- a fault of the site may end it
 abbrev pub the_site : Blamed
-the_site = record { site = true; link = false; ports = false }
+the_site = record { site = true; link = false; ports = false; spares = false }
 
 -- a row's work, done with this answer, adds nothing
 abbrev pub DoesOnly : Row → Seen → Answer → Type 0

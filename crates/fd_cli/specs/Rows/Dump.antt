@@ -22,8 +22,8 @@ use Rattle.fd_cli.specs.declared.reply.Reply.{Reply}
 use Rattle.fd_cli.specs.declared.reply.Trouble.{Trouble}
 use Rattle.fd_cli.specs.declared.refusal.Refusal.{Refusal}
 use Rattle.fd_cli.specs.declared.refusal.Refusal.TheVariants.{NoFile, NotImage, BadImage, NoRoom}
-use Rattle.fd_cli.specs.declared.source.Source.{Source}
-use Rattle.fd_cli.specs.declared.source.Source.TheVariants.{File, Made}
+use Rattle.fd_words.specs.declared.source.Source.{Source}
+use Rattle.fd_words.specs.declared.source.Source.TheVariants.{File, Made}
 
 -- the file of this name spells this image
 pub record IsNamed (c : Contents) (name : List ℕ) (m : MachineImage) : Type 0 where
@@ -66,14 +66,18 @@ DumpsIfRoom found m w =
     OnTrue (has_room found.size found.block (length (minidump_of m))) (Dumps found.size found.block m w)
     × OnFalse (has_room found.size found.block (length (minidump_of m))) (Refuses (no_room found m) w)
 
+-- P of the work with an image that was given; where none was, that is refused
+abbrev pub OnImage : (MachineImage → Work → Type 0) → Result MachineImage ImageFault → Work → Type 0
+OnImage P (Ok m) w = P m w
+OnImage P (Err image.NoFile) w = Refuses NoFile w
+OnImage P (Err (image.NotImage place)) w = Refuses (NotImage place) w
+OnImage P (Err (image.BadImage bad)) w = Refuses (BadImage bad) w
+OnImage P (Err image.SiteFault) w = ⊥
+OnImage P (Err image.NoMemory) w = ⊥
+
 -- by what the image's source gives
 abbrev pub ByImage : Seen → Result MachineImage ImageFault → Work → Type 0
-ByImage found (Ok m) w = DumpsIfRoom found m w
-ByImage found (Err image.NoFile) w = Refuses NoFile w
-ByImage found (Err (image.NotImage place)) w = Refuses (NotImage place) w
-ByImage found (Err (image.BadImage bad)) w = Refuses (BadImage bad) w
-ByImage found (Err image.SiteFault) w = ⊥
-ByImage found (Err image.NoMemory) w = ⊥
+ByImage found given w = OnImage (DumpsIfRoom found) given w
 
 -- a dump of an image was begun on a good partition with room
 pub record HasBegun (size block : ℕ) (m : MachineImage) (added : Added) : Type 0 where

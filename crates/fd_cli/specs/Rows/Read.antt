@@ -1,16 +1,20 @@
 -- `read FILE ADDRESS LENGTH`: a saved minidump's bytes at kernel addresses.
-use Rattle.std.specs.Prelude.{◌≡◌, ℕ, List, Option, Some, None, Result, Ok, Err}
+use Rattle.std.specs.Prelude.{◌≡◌, ℕ, List, Option, Some, None, IfOk, Result, Ok, Err}
 use Rattle.fd_site.specs.Contents.{Contents, Told, file_of}
 use Rattle.fd_mini.specs.Kernel.{KernelBytes}
 use Rattle.fd_mini.specs.declared.address_fault.AddressFault.{AddressFault}
 use Rattle.fd_vmcore.specs.declared.open.OpenFault.{OpenFault}
 use Rattle.fd_vmcore.specs.declared.open.OpenFault.TheVariants as vmcore
-use Rattle.fd_kvm.specs.Answer.{answer_of, bytes_in}
-use Rattle.fd_kvm.specs.Reader.{Reader}
+use Rattle.fd_kvm.specs.Answer.{answer_of}
+use Rattle.fd_cli.specs.Reply.{IsReplyOf}
+use Rattle.fd_way.specs.declared.print_fault.PrintFault.{PrintFault}
+use Rattle.fd_way.specs.declared.print_fault.PrintFault.TheVariants as print
 use Rattle.fd_cli.specs.Row.{Row}
 use Rattle.fd_cli.specs.Rows.Common.{AddsNothing, Answers, SaysNothing, the_site}
 use Rattle.fd_cli.specs.declared.answer.Answer.{Answer}
 use Rattle.fd_cli.specs.declared.answer.Answer.TheVariants.{Read, Refused}
+use Rattle.fd_cli.specs.declared.reply.Reply.{Reply}
+use Rattle.fd_cli.specs.declared.reply.Trouble.{Trouble}
 use Rattle.fd_cli.specs.declared.refusal.Refusal.TheVariants.{Address, NoFile, Mini, Short, BadAvail}
 
 -- the answer, by the bytes and the first fault of an address
@@ -36,19 +40,23 @@ IsAnswerToFile va (Err (vmcore.BadAvail index)) answer = answer ≡ Refused (Bad
 IsAnswerToFile va (Err vmcore.SiteFault) answer = ⊥
 IsAnswerToFile va (Err vmcore.NoMemory) answer = ⊥
 
--- the answer of a reader of a vmcore
-abbrev pub IsReaderAnswer : Option Contents → Reader → (va count : ℕ) → Answer → Type 0
-IsReaderAnswer told reader va count answer =
-    Told told (λ c. (f : List ℕ) → file_of c reader.name ≡ Some f → answer ≡ bytes_answer va (bytes_in f reader.sections va count))
-
--- an answer that a read may have, whatever the file is
-abbrev pub IsSomeRead : (va : ℕ) → Answer → Type 0
-IsSomeRead va answer = (given : KernelBytes) × (answer ≡ bytes_answer va given)
+-- the reply to a file that isn't opened
+abbrev pub RefusesFile : OpenFault → Result Reply Trouble → Type 0
+RefusesFile fault result =
+    IfOk result (λ reply. (answer : Answer) × ((va : ℕ) → IsAnswerToFile va (Err fault) answer) × IsReplyOf answer reply)
 
 -- the answer over what the site tells
 abbrev pub IsReadAnswer : Option Contents → (name : List ℕ) → (va count : ℕ) → Answer → Type 0
 IsReadAnswer told name va count answer =
     (given : Result KernelBytes OpenFault) × Told told (λ c. given ≡ file_answer (file_of c name) va count) × IsAnswerToFile va given answer
+
+-- the status that follows a read, by how it was printed
+abbrev pub read_status : Result (Option AddressFault) PrintFault → ℕ
+read_status (Ok None) = 0
+read_status (Ok (Some fault)) = 1
+read_status (Err print.SiteFault) = 74
+read_status (Err print.SinkFault) = 74
+read_status (Err print.NoMemory) = 71
 
 abbrev pub read_row : (name : List ℕ) → (va count : ℕ) → Row
 read_row name va count = record {

@@ -1,7 +1,8 @@
-use Rattle.std.proofs.Common.{Some}
-use Rattle.fd_cli.specs.declared.command.Command.TheVariants as command
+use Rattle.std.proofs.Common.{Some, refl}
+use Rattle.fd_words.specs.declared.command.Command.TheVariants as command
 use Rattle.fd_cli.proofs.Calls.{call_by}
 use Rattle.fd_cli.proofs.Cuts.{each_dump_is_safe, found_of_call, left_of}
+use Rattle.fd_cli.proofs.Delivering.{delivered_of_call}
 use Rattle.fd_cli.proofs.Images.{reads_of_call}
 use Rattle.fd_cli.proofs.Sound.{sound}
 use Rattle.fd_cli.proofs.run.crashway.Goals as goal
@@ -9,7 +10,7 @@ use Rattle.fd_cli.proofs.run.crashway.Goals as goal
 pub returns-clause-crash : goal.returns-clause-crash
 returns-clause-crash g c source is =
     each_dump_is_safe source _ _ (λ d told. g.met.S.Site.told_size _ d told)
-    (left_of _ _ _ _ (sound (Some (command.Dump source))) (call_by _ _ _ _ _ is c.carry_out.ensures))
+    (left_of _ _ _ _ (sound (Some (command.Dump source)) (refl, refl)) (call_by _ _ _ _ _ is c.carry_out.ensures))
 
 pub returns-clause-found : goal.returns-clause-found
 returns-clause-found g c source is zero =
@@ -22,9 +23,13 @@ returns-clause-reads g c name va count is =
 pub returns-clause-stopped : goal.returns-clause-stopped
 returns-clause-stopped g c options keep is =
     c.each_savecore_is_safe.ensures options keep _ _ (λ d told. g.met.S.Site.told_size _ d told)
-    (left_of _ _ _ _ (sound (Some (command.Save options keep))) (call_by _ _ _ _ _ is c.carry_out.ensures))
+    (left_of _ _ _ _ (sound (Some (command.Save options keep)) (refl, refl)) (call_by _ _ _ _ _ is c.carry_out.ensures))
 
 pub returns-clause-others : goal.returns-clause-others
 returns-clause-others g c options keep is none =
     c.each_saved_file_is_left.ensures options keep _ _ none (λ d told. g.met.S.Site.told_size _ d told)
-    (left_of _ _ _ _ (sound (Some (command.Save options keep))) (call_by _ _ _ _ _ is c.carry_out.ensures))
+    (left_of _ _ _ _ (sound (Some (command.Save options keep)) (refl, refl)) (call_by _ _ _ _ _ is c.carry_out.ensures))
+
+pub returns-clause-delivered : goal.returns-clause-delivered
+returns-clause-delivered g c source server is zero =
+    delivered_of_call c.each_netdump_is_delivered.ensures _ _ source server _ (call_by _ _ _ _ _ is c.carry_out.ensures) zero
