@@ -4,7 +4,7 @@ ghost use Rattle.std.specs.Prelude.{◌≡◌, ◌≤◌, None, IfOk};
 ghost use Rattle.fd_site.specs.Trace.{IsTaken};
 
 use crate::fault::{counted, lost};
-use crate::udp::{MOST_NAPS, bound, look, nap, not_open, send};
+use crate::udp::{MOST_LOOKS, bound, look, nap, not_open, send};
 use fd_site::{Failed, Peer, Ports, Taken};
 use std::io;
 use std::io::{Error, ErrorKind};
@@ -138,12 +138,12 @@ impl Sockets {
         ensures { IfOk result IsTaken }
     {
         let began = Instant::now(rt)?;
-        for _ in 0..MOST_NAPS {
+        for looks in 0..MOST_LOOKS {
             let taken = self.look(out)?;
             if !matches!(taken, Taken::Silent) {
                 return Ok(taken);
             }
-            if !nap(rt, &began)? {
+            if !nap(rt, &began, looks)? {
                 break;
             }
         }
