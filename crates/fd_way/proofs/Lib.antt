@@ -3,6 +3,9 @@ mod BitmapBits
 mod ClearWays
 mod Decided
 mod Digits
+mod Errors
+mod FileText
+mod FirstSectors
 mod ImageWords
 mod LastSectors
 mod Limits
@@ -13,12 +16,9 @@ mod OverClear
 mod PageStarts
 mod PagesPrinted
 mod Pieces
-mod Errors
-mod FileText
-mod FirstSectors
 mod Printing
-mod Savecores
 pub mod SameReads
+mod Savecores
 mod TableEntries
 mod Translated
 mod Units
