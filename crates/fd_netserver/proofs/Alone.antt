@@ -19,7 +19,7 @@ use Rattle.fd_netserver.proofs.Rows.{FactsOf, facts_of}
 use Rattle.fd_netserver.proofs.Settled.{IsSettled, settled_turn, no_session}
 use Rattle.fd_netserver.proofs.Sound.{IsOpen, AreSound, place, here_again, not_touched, of_done, of_begun, shut_stays, sound_turn}
 
-told_phase : (found : Option Message) (s : Session) → (told found s).phase ≡ s.phase
+pub told_phase : (found : Option Message) (s : Session) → (told found s).phase ≡ s.phase
 told_phase None s = refl
 told_phase (Some m) s =
     cond_both (m.kind == vmcore) (with_piece m.offset m.body s) (cond (m.kind == kdh) (record s { header = Some m.body }) s) (λ (t : Session). t.phase ≡ s.phase)

@@ -1,5 +1,6 @@
 mod Alone
 pub mod Apart
+mod Complete
 pub mod Covered
 pub mod Finish
 mod Going
@@ -12,10 +13,12 @@ mod Numbers
 pub mod Own
 mod Pacing
 mod Places
-pub mod Rows
+mod Rows
+pub mod Running
 pub mod Settled
-pub mod Sound
-pub mod Standing
+mod Sound
+mod Standing
 mod Steps
 mod Taking
 mod Turns
+mod Unbroken

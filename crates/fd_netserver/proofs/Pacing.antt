@@ -1,8 +1,9 @@
 -- How long a server serves.
 use Rattle.std.proofs.Common.{◌≡◌, inl, inr, ℕ, zero, suc, ◌+◌, ◌-◌, ◌<◌, ◌≤◌, min, Bool, true, false, List, [], ◌∷◌, ◌++◌, length, take, Option, Some, None, refl, sym, ◌∙◌, ap, subst, arith, append_assoc, length-append}
-use Rattle.std.proofs.lemmas.List.{append-nil, take_all}
+use Rattle.std.proofs.lemmas.List.{append-nil}
 use Rattle.std.proofs.lemmas.Bool.{cases_lt}
-use Rattle.fd_netserver.specs.Serving.{AreFew, IsLingering, IsOver, IsPaced, IsPacedBy, IsServing, IsSpent, IsWaiting, finished_by, finished_in}
+use Rattle.fd_netserver.specs.Serving.{AreFew, IsGoing, IsLingering, IsOver, IsServing, IsSpent, IsWaiting, finished_by, finished_in}
+use Rattle.fd_netserver.specs.Turning.{IsPaced, IsPacedBy}
 use Rattle.fd_netserver.specs.Session.{Turn}
 use Rattle.fd_netserver.specs.declared.limits.Received.{Received}
 use Rattle.fd_netserver.specs.declared.limits.ServeLimits.{ServeLimits}
@@ -100,6 +101,14 @@ module _ (limits : ServeLimits) where
 
   pub over_paced : (pace : Pace) (hs : List (Option Turn)) → pace.left ≡ 0 → pace.waits ≡ false → IsPaced limits pace hs → IsOver limits hs
   over_paced pace hs none is paced = over_by pace.waits pace.left hs none is paced
+
+  -- where turns are left
+  going_by : (waits : Bool) (left : ℕ) (hs : List (Option Turn)) → 0 < left → IsPacedBy limits waits left hs → IsGoing limits hs
+  going_by true left hs more paced = record { left = left; some = more; goes = inl paced }
+  going_by false left hs more paced = record { left = left; some = more; goes = inr paced }
+
+  pub going_paced : (pace : Pace) (hs : List (Option Turn)) → 0 < pace.left → IsPaced limits pace hs → IsGoing limits hs
+  going_paced pace hs more paced = going_by pace.waits pace.left hs more paced
 
   -- the next turn
   pub waits_next : (waits : Bool) (left : ℕ) (hs : List (Option Turn)) (h : Option Turn) (finished : ℕ) → 0 < left → waits ≡ true → IsPacedBy limits waits left hs

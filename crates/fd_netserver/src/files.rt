@@ -47,12 +47,7 @@ pub(crate) fn write_vmcore<S: Site>(
 }
 
 // The file of the dump is synced, and that of its text is made, written and synced.
-fn finish_files<S: Site>(
-    site: &mut S,
-    vmcore: &str,
-    info: &str,
-    text: &[u8],
-) -> Result<(), Failed>
+fn finish_files<S: Site>(site: &mut S, vmcore: &str, info: &str, text: &[u8]) -> Result<(), Failed>
     requires vmcore { IsTrue (is_good_name vmcore.now) }
     requires info { IsTrue (is_good_name info.now) }
     requires there { Told (S.seen site.old).told (λ c. IsSome (file_of c vmcore.now)) }

@@ -15,6 +15,8 @@ mod pace;
 mod phase;
 mod record;
 mod reply;
+#[cfg(test)]
+mod serve_tests;
 mod server;
 mod serving;
 mod step;

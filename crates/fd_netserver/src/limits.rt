@@ -1,5 +1,7 @@
 //! How long a server serves, what it received, and why it stopped.
 
+ghost use Rattle.std.specs.Prelude.{◌≡◌, []};
+
 use arrayvec::ArrayVec;
 use fd_site::Failed;
 use std::alloc::AllocError;
@@ -16,7 +18,7 @@ pub struct ServeLimits {
 }
 
 /// A session that was finished: the number of its files, and how many bytes its dump has.
-#[derive(Clone, Copy, Debug, PartialEq, Eq)]
+#[derive(Clone, Copy, Debug, Default, PartialEq, Eq)]
 pub struct Received {
     pub number: u32,
     pub length: u64,
@@ -26,6 +28,17 @@ pub struct Received {
 #[derive(Drop)]
 pub struct Served {
     pub list: ArrayVec<Received, 16>,
+}
+
+impl Served {
+    /// None.
+    pub fn new() -> Served
+        ensures { result.list.items ≡ [] }
+    {
+        Served {
+            list: ArrayVec::new(),
+        }
+    }
 }
 
 /// Why a server stopped before its dumps were finished.

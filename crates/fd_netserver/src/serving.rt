@@ -1,7 +1,8 @@
 //! The turns of a server.
 
 ghost use Rattle.std.specs.Prelude.{◌≡◌, ◌≤◌, ◌+◌, [], ◌++◌, List, IfErr, IsErrOf, OnErr, OnOk, length};
-ghost use Rattle.fd_netserver.specs.Serving.{BreaksInput, BreaksTurn, EndsBy, EndsDone, GoesOn, IsServedTo, IsServing, TurnsOn, answers_of, finished_by};
+ghost use Rattle.fd_netserver.specs.Serving.{EndsBy, EndsDone, IsServedTo, IsServing, answers_of, finished_by};
+ghost use Rattle.fd_netserver.specs.Turning.{BreaksInput, BreaksTurn, GoesOn, IsGrownInPart, TurnsOn};
 ghost use Rattle.fd_netserver.specs.Stands.{AreThere, dones, finishes};
 ghost use Rattle.fd_netserver.specs.declared.limits.ServeFault.TheVariants as fault;
 ghost use Rattle.fd_site.specs.Contents.{Told, file_of};
@@ -21,7 +22,7 @@ use std::alloc::Global;
 // Answers a peer; the slot of a new session is opened before.
 fn respond<P: Ports>(ports: &mut P, peer: Peer, reply: Reply) -> Result<(), Failed>
     ensures ok { OnOk result ((P.seen ports.new).told ≡ grown (P.seen ports.old).told (answers_of peer reply)) }
-    ensures err { OnErr result ((given lacking : List PortsEvent) × (answers_of peer reply ≡ given ++ lacking) × ((P.seen ports.new).told ≡ grown (P.seen ports.old).told given)) }
+    ensures err { OnErr result (IsGrownInPart (P.seen ports.old).told (P.seen ports.new).told (answers_of peer reply)) }
     ensures count { (P.seen ports.old).faults ≤ (P.seen ports.new).faults }
     ensures cause { OnErr result (Rose (P.seen ports.old).faults (P.seen ports.new).faults) }
 {
@@ -60,9 +61,9 @@ fn take_input<P: Ports, S: Site>(
 ) -> Result<(), ServeFault>
     requires noted { length list.old.items ≡ dones server.old }
     requires there { Told (S.seen site.old).told (λ c. AreThere server.old (file_of c)) }
-    ensures ok { OnOk result (GoesOn (S.seen site.old).told (S.seen site.new).told (P.seen ports.old).told (P.seen ports.new).told server.old server.new (record { slot = slot; peer = peer; bytes = bytes.now }) list.old.items list.new.items) }
+    ensures ok { OnOk result (GoesOn (S.seen site.old) (S.seen site.new) (P.seen ports.old).told (P.seen ports.new).told server.old server.new (record { slot = slot; peer = peer; bytes = bytes.now }) list.old.items list.new.items) }
     ensures noted { OnOk result (length list.new.items ≡ dones server.new) }
-    ensures err { IfErr result (BreaksInput (S.seen site.old).told (S.seen site.new).told (P.seen ports.old).told (P.seen ports.new).told server.old (record { slot = slot; peer = peer; bytes = bytes.now }) list.old.items list.new.items) }
+    ensures err { IfErr result (BreaksInput (S.seen site.old) (S.seen site.new) (P.seen ports.old).told (P.seen ports.new).told server.old (record { slot = slot; peer = peer; bytes = bytes.now }) list.old.items list.new.items) }
     ensures frame { Frame (S.seen site.old) (S.seen site.new) }
     ensures count { (P.seen ports.old).faults ≤ (P.seen ports.new).faults }
     ensures cause { IsErrOf result fault.PortsFault → Rose (P.seen ports.old).faults (P.seen ports.new).faults }
@@ -83,9 +84,9 @@ fn take_turn<P: Ports, S: Site>(
 ) -> Result<(), ServeFault>
     requires noted { length list.old.items ≡ dones server.old }
     requires there { Told (S.seen site.old).told (λ c. AreThere server.old (file_of c)) }
-    ensures ok { OnOk result (TurnsOn (S.seen site.old).told (S.seen site.new).told (P.seen ports.old).told (P.seen ports.new).told server.old server.new list.old.items list.new.items) }
+    ensures ok { OnOk result (TurnsOn (S.seen site.old) (S.seen site.new) (P.seen ports.old).told (P.seen ports.new).told server.old server.new list.old.items list.new.items) }
     ensures noted { OnOk result (length list.new.items ≡ dones server.new) }
-    ensures err { IfErr result (BreaksTurn (S.seen site.old).told (S.seen site.new).told (P.seen ports.old).told (P.seen ports.new).told server.old list.old.items list.new.items) }
+    ensures err { IfErr result (BreaksTurn (S.seen site.old) (S.seen site.new) (P.seen ports.old).told (P.seen ports.new).told server.old list.old.items list.new.items) }
     ensures frame { Frame (S.seen site.old) (S.seen site.new) }
     ensures count { (P.seen ports.old).faults ≤ (P.seen ports.new).faults }
     ensures cause { IsErrOf result fault.PortsFault → Rose (P.seen ports.old).faults (P.seen ports.new).faults }
@@ -99,7 +100,8 @@ fn take_turn<P: Ports, S: Site>(
 }
 
 /// Serves until so many dumps are finished, and then as many turns more as it is to linger, or as are left. It answers
-/// `TurnsSpent` where all turns were taken before, and `PortsFault` only where the ports' count of faults rose.
+/// `TurnsSpent` where all turns were taken before, and `PortsFault` only where the ports' count of faults rose. A fault of
+/// the site breaks a session, and never ends serving.
 ///
 /// A turn is one look at the ports, which may bring nothing. What it brings is taken by a server, which is new at the
 /// first turn; each answer but `Ignored` goes from its slot to its peer, and the slot of a new session is opened before.
@@ -113,8 +115,8 @@ pub fn serve<P: Ports, S: Site>(
 ) -> Result<(), ServeFault>
     requires limits { IsServing limits }
     requires empty { served.old.list.items ≡ [] }
-    ensures ok { OnOk result (IsServedTo (EndsDone limits) (S.seen site.old).told (S.seen site.new).told (P.seen ports.old).told (P.seen ports.new).told served.new.list.items) }
-    ensures err { IfErr result (λ why. IsServedTo (EndsBy limits why) (S.seen site.old).told (S.seen site.new).told (P.seen ports.old).told (P.seen ports.new).told served.new.list.items) }
+    ensures ok { OnOk result (IsServedTo (EndsDone limits) (S.seen site.old) (S.seen site.new) (P.seen ports.old).told (P.seen ports.new).told served.new.list.items) }
+    ensures err { IfErr result (λ why. IsServedTo (EndsBy limits why) (S.seen site.old) (S.seen site.new) (P.seen ports.old).told (P.seen ports.new).told served.new.list.items) }
     ensures frame { Frame (S.seen site.old) (S.seen site.new) }
     ensures count { (P.seen ports.old).faults ≤ (P.seen ports.new).faults }
     ensures cause { IsErrOf result fault.PortsFault → Rose (P.seen ports.old).faults (P.seen ports.new).faults }

@@ -1,8 +1,9 @@
-use Rattle.std.proofs.Common.{◌≡◌, ◌+◌, ◌≤◌, ◌++◌, [], ◌∷◌, List, length, refl, sym, ◌∙◌, ap, arith}
+use Rattle.std.proofs.Common.{◌++◌, [], ◌∷◌, length, refl, sym, ◌∙◌, ap, arith}
 use Rattle.fd_netserver.specs.Serving.{EndsBy, EndsDone, IsServedTo, finished_in}
 use Rattle.fd_netserver.specs.Stands.{dones}
+use Rattle.fd_netserver.specs.declared.limits.ServeFault.TheVariants.{TurnsSpent}
 use Rattle.fd_netserver.proofs.Going.{ends_broken, passed, served_end, served_new, served_there}
-use Rattle.fd_netserver.proofs.Pacing.{finished_in-append, over_paced, spent_paced}
+use Rattle.fd_netserver.proofs.Pacing.{finished_in-append, going_paced, over_paced, spent_paced}
 use Rattle.fd_netserver.proofs.serving.serve.Goals as goal
 
 pub take_turn-requires-clause-there : goal.take_turn-requires-clause-there
@@ -29,7 +30,7 @@ loop-pace-preserved g c =
       served = more.served;
       noted = c.in_ok-take_turn.ensures.noted;
       listed = listed;
-      paced = c.next.ensures.paced i.happened more.last i.paced (c.len.ensures.value ∙ ap length listed);
+      paced = c.next-pace.ensures.paced i.happened more.last i.paced (c.len.ensures.value ∙ ap length listed);
       frame = record {
         size = c.in_ok-take_turn.ensures.frame.size ∙ i.frame.size;
         block = c.in_ok-take_turn.ensures.frame.block ∙ i.frame.block;
@@ -41,13 +42,18 @@ loop-pace-preserved g c =
 pub returns-in_err-take_turn-clause-err : goal.returns-in_err-take_turn-clause-err
 returns-in_err-take_turn-clause-err g c =
     let i = c.loop-pace.invariant in
-    passed c.from_residual.result c.in_err-take_turn.field-0 (λ why. IsServedTo (EndsBy c.args.limits why) _ _ _ _ _) c.from_residual.ensures.1
-    (ends_broken c.args.limits c.in_err-take_turn.field-0 _ _ _ _ _ (c.in_err-take_turn.ensures.err _ _ i.happened i.served i.listed))
+    let why = c.in_err-take_turn.field-0.0 in
+    passed c.from_residual.result why
+    (λ e. IsServedTo (EndsBy c.args.limits e) (g.S.Site.seen c.args.site.now) (g.S.Site.seen c.take_turn.new.site) (g.P.Ports.seen c.args.ports.now).told (g.P.Ports.seen c.take_turn.new.ports).told c.take_turn.new.list.items)
+    c.from_residual.ensures.1
+    (ends_broken c.args.limits why _ _ _ _ i.happened _ (going_paced c.args.limits c.loop-pace.pace i.happened c.loop-pace-test.true i.paced)
+    (c.in_err-take_turn.ensures.err _ _ i.happened i.served i.listed))
 
 pub returns-then-pace-clause-err : goal.returns-then-pace-clause-err
 returns-then-pace-clause-err g c =
     let i = c.loop-pace.invariant in
-    served_end (EndsBy c.args.limits _) _ _ _ _ _ i.happened _ i.served i.listed (refl, refl, spent_paced c.args.limits c.loop-pace.pace i.happened (omega arith) c.if-pace.true i.paced)
+    let spent = spent_paced c.args.limits c.loop-pace.pace i.happened (omega arith) c.if-pace.true i.paced in
+    served_end (EndsBy c.args.limits (TurnsSpent c.args.limits.turns)) _ _ _ _ _ i.happened _ i.served i.listed (refl, refl, spent)
 
 pub returns-clause-ok : goal.returns-clause-ok
 returns-clause-ok g c =

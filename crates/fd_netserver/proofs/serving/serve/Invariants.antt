@@ -1,6 +1,7 @@
 use Rattle.std.proofs.Common.{◌≡◌, ◌≤◌, List, Option, length}
 use Rattle.fd_site.specs.Seen.{Frame}
-use Rattle.fd_netserver.specs.Serving.{IsPaced, IsServed, finished_in}
+use Rattle.fd_netserver.specs.Serving.{finished_in}
+use Rattle.fd_netserver.specs.Turning.{IsPaced, IsServed}
 use Rattle.fd_netserver.specs.Session.{Turn}
 use Rattle.fd_netserver.specs.Stands.{dones}
 use Rattle.fd_netserver.proofs.serving.serve.Given as goal
@@ -8,7 +9,7 @@ use Rattle.fd_netserver.proofs.serving.serve.Given as goal
 abbrev pub invariant-loop-pace : goal.invariant-loop-pace
 invariant-loop-pace g l = record {
   happened : List (Option Turn);
-  served : IsServed (g.S.Site.seen l.initial.site).told (g.S.Site.seen l.site).told (g.P.Ports.seen l.initial.ports).told (g.P.Ports.seen l.ports).told l.server happened;
+  served : IsServed (g.S.Site.seen l.initial.site) (g.S.Site.seen l.site) (g.P.Ports.seen l.initial.ports).told (g.P.Ports.seen l.ports).told l.server happened;
   noted : length l.served.list.items ≡ dones l.server;
   listed : l.served.list.items ≡ finished_in happened;
   paced : IsPaced l.limits l.pace happened;
