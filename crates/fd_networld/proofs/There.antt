@@ -1,9 +1,8 @@
 -- The file of each open session is there, in every world.
-use Rattle.std.proofs.Common.{◌≡◌, List, [], ◌++◌, Some, refl, sym, ◌∙◌, ap, subst}
+use Rattle.std.proofs.Common.{◌≡◌, List, [], Some, refl, sym, ◌∙◌, ap, subst}
 use Rattle.fd_fake.specs.Directory.{file_in}
 use Rattle.fd_fake.specs.Disk.{contents_of, file_now}
 use Rattle.fd_fake.specs.MemSite.{SiteInMemory}
-use Rattle.fd_netserver.specs.Files.{files_after}
 use Rattle.fd_netserver.specs.History.{AreServerRuns, IsServerRun, all_turns, entries_in}
 use Rattle.fd_netserver.specs.Running.{HasServed}
 use Rattle.fd_netserver.specs.Session.{Turn}
