@@ -13,11 +13,11 @@ mod Numbers
 pub mod Own
 mod Pacing
 mod Places
+mod Rows
 pub mod Running
-pub mod Rows
 pub mod Settled
-pub mod Sound
-pub mod Standing
+mod Sound
+mod Standing
 mod Steps
 mod Taking
 mod Turns

@@ -1,11 +1,12 @@
 -- What was sent stays sent, whatever comes behind it; so nothing is forged in a world that goes on.
-use Rattle.std.proofs.Common.{◌≡◌, inl, inr, ℕ, zero, suc, List, [], ◌∷◌, ◌++◌, map, Some, slice_get, refl, sym, ◌∙◌, ap, append_assoc}
+use Rattle.std.proofs.Common.{◌≡◌, ◌==◌, true, inl, inr, ℕ, zero, suc, List, [], ◌∷◌, ◌++◌, map, Some, slice_get, refl, sym, ◌∙◌, ap, append_assoc}
+use Rattle.std.proofs.lemmas.Bool.{and_parts, eqb-true}
 use Rattle.std.specs.List.{filter_map, flat_map}
 use Rattle.std.proofs.lemmas.List.{append-nil, map-append}
 use Rattle.fd_netmsg.specs.Each.{Each, OneOf}
 use Rattle.fd_netmsg.specs.Message.{ack}
 use Rattle.fd_netserver.specs.History.{all_turns, answer}
-use Rattle.fd_netserver.specs.Session.{Turn}
+use Rattle.fd_netserver.specs.Session.{Turn, same_peer}
 use Rattle.fd_netserver.specs.declared.reply.Reply.{Reply}
 use Rattle.fd_netserver.specs.declared.reply.Reply.TheVariants.{Opened, Ack, Finished, Ignored}
 use Rattle.fd_netserver.proofs.Lists.{Each-behind}
@@ -15,6 +16,13 @@ use Rattle.fd_networld.specs.Delivery.{IsAnswer, IsCarried, IsSending, WasAnswer
 use Rattle.fd_networld.specs.Sent.{Exchange, all_answers, answer_to, answers_in, sent_in}
 use Rattle.fd_networld.specs.World.{Story, exchange_of, exchanges_of, runs_of, served_in}
 use Rattle.fd_networld.specs.declared.answer.Answer.{Answer}
+
+pub same_peer-true : (a b : Peer) → same_peer a b ≡ true → a ≡ b
+same_peer-true a b is =
+    let parts = and_parts (a.address == b.address) (a.port == b.port) is in
+    let address = eqb-true a.address b.address parts.0 in
+    let port = eqb-true a.port b.port parts.1 in
+    λ i. record { address = address i; port = port i }
 
 one_before : {X : Type 0} (P : X → Type 0) (xs ys : List X) → OneOf P xs → OneOf P (xs ++ ys)
 one_before P [] ys one = absurd one

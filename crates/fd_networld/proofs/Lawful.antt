@@ -17,7 +17,6 @@ use Rattle.fd_netmsg.specs.Message.{ack}
 use Rattle.fd_netserver.specs.Files.{Files}
 use Rattle.fd_netserver.specs.History.{AreServerRuns, IsTurn, all_turns, entries_in}
 use Rattle.fd_netserver.specs.Session.{Input, Turn, same_peer, sessions_after}
-use Rattle.fd_netserver.proofs.Rows.{same_peer-true}
 use Rattle.fd_netserver.proofs.Settled.{entries_in-append}
 use Rattle.fd_site.specs.Contents.{Contents, file_of}
 use Rattle.fd_site.specs.Trace.{LinkEvent, Sent, Got, Silent}
@@ -30,7 +29,7 @@ use Rattle.fd_networld.specs.Watched.{IsCalm}
 use Rattle.fd_networld.specs.declared.answer.Answer.{Answer}
 use Rattle.fd_networld.specs.declared.event.Event.{Event}
 use Rattle.fd_networld.specs.declared.event.Event.TheVariants.{Send, ToServer, ToClient, Stranger, ClientSilent, ServerSilent, SiteFails, Restart}
-use Rattle.fd_networld.proofs.Carrying.{answers_all, carried_event, carried_turn, was_answered, was_sent}
+use Rattle.fd_networld.proofs.Carrying.{same_peer-true, answers_all, carried_event, carried_turn, was_answered, was_sent}
 use Rattle.fd_networld.proofs.Running.{runs_begin, runs_more, turns-begin, turns-more}
 use Rattle.fd_networld.proofs.Served.{was_served}
 

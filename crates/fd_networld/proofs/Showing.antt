@@ -116,7 +116,7 @@ module _ (story : Story) (was : World) (shows : Shows story was) where
     cause is = elim (taken.cause is) [
       | inl failed ↦ inl (record { waited = sym shows.waiting ∙ failed.waited; over = failed.over })
       | inr broken ↦
-          let it = broken_at was.server sessions (input.slot - 1) shows.server broken.0 broken.1 in
+          let it = broken_at was.server sessions (input.slot - 1) shows.server broken.broken broken.there in
           inr (record { session = it.0; there = it.1; broken = it.2 })
     ]
 
