@@ -2,7 +2,6 @@
 
 use crate::partitions::{check, failing_once, partition, read_sectors};
 use fd_fake::MemSite;
-use fd_site::Site;
 use std::alloc::Global;
 use std::process::Abort;
 use std::test::Fail;
@@ -127,17 +126,17 @@ fn an_image_is_made_of_an_architecture_and_a_number(rt: HostRuntime) -> Result<(
 }
 
 // The image that is written where one call fails, and then the image without a fault.
-fn fails_and_writes<S: Site>(rt: &impl Abort, alloc: Global, site: &mut S) -> Result<(), Fail> {
+fn fails_and_writes(rt: &impl Abort, alloc: Global, site: &mut MemSite) -> Result<(), Fail> {
     let words = ["image", "riscv", "0", "a.img"];
     check(rt, alloc, site, &words, 74, "")?;
-    check(rt, alloc, site, &words, 0, "image a.img 53314\n")
+    check(rt, alloc, site, &words, 0, "image a.img 53314\n")?;
+    assert_eq!(rt; site.starved(), 0);
+    Ok(())
 }
 
 fn fails_at(rt: &impl Abort, alloc: Global, failing: u64) -> Result<(), Fail> {
     let mut site = failing_once(alloc, 0, failing)?;
-    fails_and_writes(rt, alloc, &mut site)?;
-    assert_eq!(rt; site.starved(), 0);
-    Ok(())
+    fails_and_writes(rt, alloc, &mut site)
 }
 
 // How many calls it takes to write the image.

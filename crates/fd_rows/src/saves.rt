@@ -269,21 +269,33 @@ fn beside_a_file(
     Ok(site)
 }
 
-// A save whose call fails prints nothing and leaves the dump on the partition, and the next one saves it, under a number of
-// its own where the first had begun a file.
-fn fails_and_saves<S: Site>(
+// It was saved beside a file that stays.
+fn is_saved_beside<S: Site>(
     rt: &impl Abort,
     alloc: Global,
     site: &mut S,
+    name: &str,
+) -> Result<(), Fail> {
+    is_cleared(rt, alloc, site)?;
+    reads_as_the_image(rt, alloc, site, name)?;
+    holds(rt, site, "vmcore.0", b"x");
+    Ok(())
+}
+
+// A save whose call fails prints nothing and leaves the dump on the partition, and the next one saves it, under a number of
+// its own where the first had begun a file.
+fn fails_and_saves(
+    rt: &impl Abort,
+    alloc: Global,
+    site: &mut MemSite,
     line: &str,
     name: &str,
 ) -> Result<(), Fail> {
     check(rt, alloc, site, &["savecore"], 74, "")?;
     is_live(rt, alloc, site)?;
     does(rt, alloc, site, &["savecore"], line)?;
-    is_cleared(rt, alloc, site)?;
-    reads_as_the_image(rt, alloc, site, name)?;
-    holds(rt, site, "vmcore.0", b"x");
+    is_saved_beside(rt, alloc, site, name)?;
+    assert_eq!(rt; site.starved(), 0);
     Ok(())
 }
 
@@ -296,9 +308,7 @@ fn fails_at(
     name: &str,
 ) -> Result<(), Fail> {
     let mut site = beside_a_file(rt, alloc, dump, failing)?;
-    fails_and_saves(rt, alloc, &mut site, line, name)?;
-    assert_eq!(rt; site.starved(), 0);
-    Ok(())
+    fails_and_saves(rt, alloc, &mut site, line, name)
 }
 
 // How many calls a save takes.
