@@ -5,6 +5,10 @@
 #[cfg(test)]
 mod bits;
 #[cfg(test)]
+mod generated;
+#[cfg(test)]
+mod header_pages;
+#[cfg(test)]
 mod image_files;
 #[cfg(test)]
 mod images;
@@ -18,5 +22,7 @@ mod partitions;
 mod saves;
 #[cfg(test)]
 mod sections;
+#[cfg(test)]
+mod texts;
 #[cfg(test)]
 mod verdicts;
