@@ -4,15 +4,11 @@
 
 mod dumped;
 mod header_page;
-#[cfg(test)]
-mod limit_tests;
 mod memory;
 mod pages;
 mod plan;
 mod sections;
 mod stream;
-#[cfg(test)]
-mod tests;
 
 pub use plan::Plan;
 pub use stream::Stream;

@@ -1,6 +1,6 @@
 //! A small valid image, and what breaks each rule.
-use crate::{BadImage, Image, Memory, Parts, Seg, Sequence, Texts, Windows};
 use fd_bytes::Arch;
+use fd_image::{BadImage, Image, Memory, Parts, Seg, Sequence, Texts, Windows};
 use fd_raw::Region;
 use std::alloc::{AllocError, Global};
 use std::process::Abort;

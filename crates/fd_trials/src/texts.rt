@@ -1,6 +1,6 @@
 //! Texts beside a saved dump.
 
-use super::{read_bounds, read_info};
+use fd_info::{read_bounds, read_info};
 use std::process::Abort;
 
 const TEXT: &[u8] = b"Dump header from device: dumpdev

@@ -2,12 +2,12 @@
 ghost use Rattle.std.specs.Prelude.{IsTrue};
 ghost use Rattle.fd_mini.specs.Layout.{is_current};
 
-use crate::{Core, OpenFault};
 use fd_bitmap::{Counted, Steps};
 use fd_bytes::Arch;
 use fd_fake::MemSite;
 use fd_mini::{MiniFault, MiniField, MiniHeader, write_header};
 use fd_site::{Site, good_name};
+use fd_vmcore::{Core, OpenFault};
 use std::alloc::{AllocError, Global};
 use std::process::Abort;
 use std::test::Fail;

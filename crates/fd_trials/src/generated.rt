@@ -1,6 +1,6 @@
 //! Words, numbers of pages and texts of generated images, worked out by hand.
-use crate::make;
 use fd_bytes::Arch;
+use fd_gen::make;
 use fd_image::{Image, Memory};
 use std::alloc::{AllocError, Global};
 use std::test::Fail;

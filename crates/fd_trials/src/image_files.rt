@@ -1,10 +1,10 @@
 //! A small image's file, written and read, and files that are almost one.
 ghost use Rattle.std.specs.Prelude.{◌+◌, ◌*◌, ◌≤◌, length};
 
-use crate::{ImageFault, read_image, write_image};
 use fd_bytes::Arch;
 use fd_fake::MemSite;
 use fd_image::{BadImage, Image, Windows};
+use fd_imgfile::{ImageFault, read_image, write_image};
 use fd_site::{Failed, Site, good_name};
 use std::alloc::{AllocError, Global};
 use std::process::Abort;
@@ -180,12 +180,16 @@ fn is_written<S: Site>(rt: &impl Abort, site: &mut S, image: &Image) -> Result<(
     Ok(())
 }
 
+fn writes(rt: &impl Abort, alloc: Global, image: &Image) -> Result<(), Fail> {
+    let mut site = MemSite::new(alloc, 0, 512, Vec::new(alloc))?;
+    is_written(rt, &mut site, image)?;
+    Ok(())
+}
+
 #[test]
 fn an_image_is_written_as_its_file(rt: HostRuntime) -> Result<(), Fail> {
-    let image = small_image(rt.alloc())?;
-    let mut site = MemSite::new(rt.alloc(), 0, 512, Vec::new(rt.alloc()))?;
-    is_written(&rt, &mut site, &image)?;
-    Ok(())
+    let alloc = rt.alloc();
+    writes(&rt, alloc, &small_image(alloc)?)
 }
 
 // A byte that no image has in the field at this place: where it stands, and what it is.
@@ -205,23 +209,24 @@ fn wrong_byte(place: u64) -> (usize, u8) {
     }
 }
 
+fn is_no_image(rt: &impl Abort, fault: Option<ImageFault>, place: u64) {
+    assert_eq!(rt; fault, Some(ImageFault::NotImage(place)));
+}
+
 #[test]
 fn a_field_that_no_image_has_is_named_by_its_place(rt: HostRuntime) -> Result<(), Fail> {
-    let places = [0, 16, 20, 24, 28, 32, 36, 40, 44, 48, 52];
-    for place in places {
-        let fault = refusal_with(rt.alloc(), &[wrong_byte(place)])?;
-        assert_eq!(rt; fault, Some(ImageFault::NotImage(place)), "place {place}");
+    for place in [0, 16, 20, 24, 28, 32, 36, 40, 44, 48, 52].as_slice() {
+        let fault = refusal_with(rt.alloc(), &[wrong_byte(*place)])?;
+        is_no_image(&rt, fault, *place);
     }
     Ok(())
 }
 
 #[test]
 fn another_length_is_refused(rt: HostRuntime) -> Result<(), Fail> {
-    let lengths = [0, 111, 112, 167, 168, 24771, 24773];
-    for len in lengths {
-        let fault = refusal_of_length(rt.alloc(), len)?;
-        let place = (len as u64).min(24772);
-        assert_eq!(rt; fault, Some(ImageFault::NotImage(place)), "length {len}");
+    for len in [0, 111, 112, 167, 168, 24771, 24773].as_slice() {
+        let fault = refusal_of_length(rt.alloc(), *len)?;
+        is_no_image(&rt, fault, (*len as u64).min(24772));
     }
     Ok(())
 }

@@ -3,52 +3,16 @@
 ghost use Rattle.std.specs.Prelude.{◌≡◌, ◌≤◌, ◌%◌, ◌^◌, [], length, IfOk};
 ghost use Rattle.fd_kdh.specs.Header.{FitsFields};
 
-use super::{Verdict, Why, judge};
-use fd_bytes::{Arch, Label};
+use crate::partitions::{header, partition, small};
+use fd_bytes::Label;
 use fd_fake::MemSite;
+use fd_judge::{Verdict, Why, judge};
 use fd_kdh::{CLEARED_MAGIC, Header, encode};
 use fd_part::{Wrote, good_partition, write_dump};
 use fd_site::{Failed, Site, SiteFault, SlicePieces};
 use std::alloc::{AllocError, Global};
 use std::process::Abort;
 use std::test::Fail;
-
-// The header of a dump of so many bytes of a riscv machine.
-pub(crate) fn header(block: u32, extent: u64) -> Header
-    ensures labels { FitsFields result }
-    ensures dumplength { result.dumplength ≡ extent }
-    ensures dumpextent { result.dumpextent ≡ extent }
-    ensures block { result.blocksize ≡ block }
-{
-    Header {
-        architecture: Label::cut(Arch::Riscv.name()),
-        architectureversion: Arch::Riscv.header_version(),
-        dumplength: extent,
-        dumptime: 1_700_000_000,
-        dumpkeysize: 0,
-        blocksize: block,
-        hostname: Label::cut(b"rv"),
-        versionstring: Label::cut_version(b"FreeBSD 14"),
-        panicstring: Label::cut(b"test"),
-        compression: 0,
-        dumpextent: extent,
-    }
-}
-
-// The header of a dump of 32768 bytes on a partition with blocks of 512.
-fn small() -> Header
-    ensures { FitsFields result }
-{
-    header(512, 32768)
-}
-
-// A zero partition.
-pub(crate) fn partition(alloc: Global, size: u64, block: u32) -> Result<MemSite, AllocError>
-    ensures fresh { IfOk result (λ site. site.disk.journal ≡ []) }
-    ensures size { IfOk result (λ site. length site.disk.base_part ≡ size) }
-{
-    MemSite::new(alloc, size, block, Vec::new(alloc))
-}
 
 fn write<S: Site>(rt: &impl Abort, site: &mut S, at: u64, bytes: &[u8]) -> Result<(), Failed> {
     let count = bytes.len() as u64;
@@ -153,15 +117,26 @@ fn tear<S: Site>(
     Ok(())
 }
 
+// Puts the blocks of the headers of a dump of 32768 bytes to a partition of 106496 with blocks of 4096.
+fn preset_blocks(site: &mut MemSite, leading: &[u8], trailing: &[u8])
+    requires fresh { site.old.disk.journal ≡ [] }
+    requires size { length site.old.disk.base_part ≡ 106496 }
+    requires leading { length leading.now ≡ 4096 }
+    requires trailing { length trailing.now ≡ 4096 }
+{
+    site.preset_part(65536, leading);
+    site.preset_part(102400, trailing);
+}
+
 // A partition of 106496 bytes with blocks of 4096, on which an earlier dump was saved and cleared.
 fn cleared_partition(alloc: Global) -> Result<MemSite, Fail> {
-    let mut site = partition(alloc, 106496, 4096)?;
     let mut earlier = header(4096, 32768);
     earlier.dumptime = 1_600_000_000;
-    let mut block = block_of(alloc, &encode(&earlier), 9)?;
-    site.preset_part(65536, &block);
-    block[..20].copy_from_slice(&CLEARED_MAGIC);
-    site.preset_part(102400, &block);
+    let live = encode(&earlier);
+    let leading = block_of(alloc, &live, 9)?;
+    let trailing = block_of(alloc, &beginning(&live, &CLEARED_MAGIC), 9)?;
+    let mut site = partition(alloc, 106496, 4096)?;
+    preset_blocks(&mut site, &leading, &trailing);
     Ok(site)
 }
 
@@ -261,18 +236,38 @@ fn a_torn_trailing_block_is_a_dump_by_its_first_sector(rt: HostRuntime) -> Resul
     Ok(())
 }
 
-// Why a partition of 131072 bytes with blocks of 512 is refused that has these sectors where a dump of 32768 bytes has
-// its headers, or None where it is judged a dump.
+// A partition of 131072 bytes with blocks of 512 that has these sectors where a dump of 32768 bytes has its headers.
+fn with_headers(
+    alloc: Global,
+    trailing: &[u8; 512],
+    leading: &[u8; 512],
+) -> Result<MemSite, AllocError> {
+    let mut site = partition(alloc, 131072, 512)?;
+    site.preset_part(130560, trailing);
+    site.preset_part(97280, leading);
+    Ok(site)
+}
+
+// Why it is refused, or None where it is judged a dump.
 fn refusal_of(
     rt: &impl Abort,
     alloc: Global,
     trailing: &[u8; 512],
     leading: &[u8; 512],
 ) -> Result<Option<Why>, Fail> {
-    let mut site = partition(alloc, 131072, 512)?;
-    site.preset_part(130560, trailing);
-    site.preset_part(97280, leading);
+    let mut site = with_headers(alloc, trailing, leading)?;
     Ok(refusal(rt, &mut site)?)
+}
+
+fn is_refused(
+    rt: &impl Abort,
+    alloc: Global,
+    trailing: &[u8; 512],
+    leading: &[u8; 512],
+    why: Option<Why>,
+) -> Result<(), Fail> {
+    assert_eq!(rt; refusal_of(rt, alloc, trailing, leading)?, why);
+    Ok(())
 }
 
 // Asserts what a header is refused for that differs from the others from this place on: by a rule on its fields,
@@ -290,13 +285,9 @@ fn check_changed(
     let changed = encode(header);
     let differs = Some(Why::Disagree(place));
     let by_rule = if rule.is_some() { rule } else { differs };
-    let why = refusal_of(rt, alloc, &changed, &old)?;
-    assert_eq!(rt; why, by_rule, "trailing, from {place} on");
-    let why = refusal_of(rt, alloc, &old, &changed)?;
-    assert_eq!(rt; why, differs, "leading, from {place} on");
-    let why = refusal_of(rt, alloc, &changed, &changed)?;
-    assert_eq!(rt; why, rule, "both, from {place} on");
-    Ok(())
+    is_refused(rt, alloc, &changed, &old, by_rule)?;
+    is_refused(rt, alloc, &old, &changed, differs)?;
+    is_refused(rt, alloc, &changed, &changed, rule)
 }
 
 // The small header with another architecture.
@@ -395,11 +386,8 @@ fn a_sector_torn_between_bytes_revives_a_cleared_dump(rt: HostRuntime) -> Result
     let live = encode(&small());
     let cleared = beginning(&live, &CLEARED_MAGIC);
     let torn = beginning(&cleared, b"FreeBSD");
-    assert_eq!(rt;
-        refusal_of(&rt, alloc, &cleared, &live)?,
-        Some(Why::Cleared)
-    );
-    assert_eq!(rt; refusal_of(&rt, alloc, &torn, &live)?, None);
+    is_refused(&rt, alloc, &cleared, &live, Some(Why::Cleared))?;
+    is_refused(&rt, alloc, &torn, &live, None)?;
     assert_eq!(rt; live[508..], *b"\x0d\x4f\xe5\x38".as_slice());
     Ok(())
 }
@@ -419,12 +407,16 @@ fn dump<S: Site>(rt: &impl Abort, site: &mut S, body: &[u8])
     );
 }
 
+fn is_found<S: Site>(rt: &impl Abort, site: &mut S, body: &[u8]) -> Result<(), Fail> {
+    assert!(rt; is_dump(rt, site, &header(512, 56434688), 10673664, body)?);
+    Ok(())
+}
+
 #[test]
 fn a_dump_of_56_mb_is_found_on_64_mib(rt: HostRuntime) -> Result<(), Fail> {
     let alloc = rt.alloc();
     let body = vec![in alloc; 7; 56434688]?;
     let mut site = partition(alloc, 67108864, 512)?;
     dump(&rt, &mut site, &body);
-    assert!(rt; is_dump(&rt, &mut site, &header(512, 56434688), 10673664, &body)?);
-    Ok(())
+    is_found(&rt, &mut site, &body)
 }

@@ -2,9 +2,10 @@
 
 ghost use Rattle.std.specs.Prelude.{◌≡◌, ◌≤◌, ◌%◌, ◌^◌, length};
 
-use super::Why;
-use super::tests::{header, is_dump, partition, refusal};
+use crate::partitions::{header, partition};
+use crate::verdicts::{is_dump, refusal};
 use fd_fake::StopSite;
+use fd_judge::Why;
 use fd_part::{good_partition, write_dump, write_marked};
 use fd_site::{Site, SlicePieces};
 use std::process::Abort;

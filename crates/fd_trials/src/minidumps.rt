@@ -1,9 +1,10 @@
 //! Minidumps of small machines, byte by byte where it tells.
 ghost use Rattle.fd_dump.specs.Plan.{IsPlanOf};
 
-use crate::Plan;
 use fd_bytes::Arch;
+use fd_dump::Plan;
 use fd_image::{Image, Parts, Seg, Sequence, Texts, Windows};
+use fd_kdh::Header;
 use fd_raw::Region;
 use fd_site::Pieces;
 use std::alloc::{AllocError, Global};
@@ -321,15 +322,18 @@ fn pages_outside_the_direct_map_are_left_out(rt: HostRuntime) -> Result<(), Fail
     check_words(&rt, rt.alloc(), &image, 24576, &words)
 }
 
-fn check_header(rt: &impl Abort, alloc: Global, image: &Image) -> Result<(), Fail> {
-    let plan = Plan::prepare(alloc, image)?;
-    let header = plan.header(image, 512);
+fn check_fields(rt: &impl Abort, header: &Header) {
     assert_eq!(rt; (header.dumplength, header.dumpextent), (32768, 32768));
     assert_eq!(rt; (header.dumptime, header.blocksize), (1_700_000_000, 512));
     assert_eq!(rt; header.architecture.bytes(), b"riscv64".as_slice());
     assert_eq!(rt; header.hostname.bytes(), b"rv".as_slice());
     assert_eq!(rt; header.versionstring.bytes(), b"FreeBSD 14".as_slice());
     assert_eq!(rt; header.panicstring.bytes(), b"test".as_slice());
+}
+
+fn check_header(rt: &impl Abort, alloc: Global, image: &Image) -> Result<(), Fail> {
+    let plan = Plan::prepare(alloc, image)?;
+    check_fields(rt, &plan.header(image, 512));
     Ok(())
 }
 

@@ -1,52 +1,24 @@
 //! Saving dumps over partitions in memory.
 
-ghost use Rattle.std.specs.Prelude.{◌≡◌, [], length, IfOk};
-ghost use Rattle.fd_kdh.specs.Header.{FitsFields};
+ghost use Rattle.std.specs.Prelude.{◌≡◌, [], IfOk};
 
-use super::{Options, SaveFault, Saved, clear, save};
-use fd_bytes::{Arch, Label};
+use crate::partitions::{failing_partition, small};
 use fd_fake::MemSite;
 use fd_judge::Why;
-use fd_kdh::{Header, encode};
+use fd_kdh::encode;
 use fd_part::good_partition;
+use fd_save::{Options, SaveFault, Saved, clear, save};
 use fd_site::Site;
 use std::alloc::{AllocError, Global};
 use std::process::Abort;
 use std::test::Fail;
 
-// The header of a dump of 32768 bytes on a partition with blocks of 512.
-fn header() -> Header
-    ensures { FitsFields result }
-{
-    Header {
-        architecture: Label::cut(Arch::Riscv.name()),
-        architectureversion: Arch::Riscv.header_version(),
-        dumplength: 32768,
-        dumptime: 1_700_000_000,
-        dumpkeysize: 0,
-        blocksize: 512,
-        hostname: Label::cut(b"rv"),
-        versionstring: Label::cut_version(b"FreeBSD 14"),
-        panicstring: Label::cut(b"test"),
-        compression: 0,
-        dumpextent: 32768,
-    }
-}
-
-// A zero partition with blocks of 512, on which these calls fail.
-fn partition(alloc: Global, size: u64, fails: Vec<u64>) -> Result<MemSite, AllocError>
-    ensures fresh { IfOk result (λ site. site.disk.journal ≡ []) }
-    ensures size { IfOk result (λ site. length site.disk.base_part ≡ size) }
-{
-    MemSite::new(alloc, size, 512, fails)
-}
-
 // A partition of 131072 bytes with this dump, on which these calls fail.
 fn dumped(alloc: Global, fails: Vec<u64>) -> Result<MemSite, AllocError>
     ensures { IfOk result (λ site. site.disk.journal ≡ []) }
 {
-    let mut site = partition(alloc, 131_072, fails)?;
-    let sector = encode(&header());
+    let mut site = failing_partition(alloc, 131_072, 512, fails)?;
+    let sector = encode(&small());
     site.preset_part(97280, &sector);
     site.preset_part(130_560, &sector);
     Ok(site)
@@ -97,7 +69,10 @@ fn numbers_follow<S: Site>(rt: &impl Abort, site: &mut S) {
 
 fn clears_once<S: Site>(rt: &impl Abort, site: &mut S) {
     assert!(rt; clears(rt, site));
-    assert_eq!(rt; fault(rt, site, false), Some(SaveFault::Refused(Why::Cleared)));
+    assert_eq!(rt;
+        fault(rt, site, false),
+        Some(SaveFault::Refused(Why::Cleared))
+    );
     assert_eq!(rt; fault(rt, site, true), None);
 }
 

@@ -1,8 +1,8 @@
 //! The plan of a machine at the limits: as many segments, ranges, wanted pages and bytes of texts as an image may have, and
 //! the largest kernel window.
 
-use crate::Plan;
 use fd_bytes::Arch;
+use fd_dump::Plan;
 use fd_image::{Image, Parts, Seg, Sequence, Texts, Windows};
 use fd_raw::Region;
 use std::alloc::{AllocError, Global};

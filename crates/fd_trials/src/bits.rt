@@ -2,7 +2,8 @@
 ghost use Rattle.std.specs.Prelude.{◌≡◌, length};
 ghost use Rattle.fd_bitmap.specs.Ranks.{IsIndexOf};
 
-use crate::{Avail, AvailFault, Bitmap, Counted, RankIndex, Steps};
+use fd_bitmap::{Avail, AvailFault, Bitmap, Counted, RankIndex, Steps};
+use std::alloc::Global;
 use std::mem::size_of;
 use std::process::Abort;
 use std::test::Fail;
@@ -23,8 +24,10 @@ fn check_bits(rt: &impl Abort, avail: &Avail) {
         (0x4020_1000, None),
         (0, None),
         (u64::MAX, None),
-    ] {
-        assert_eq!(rt; avail.bit_of(pa), bit, "the bit of {pa}");
+    ]
+    .as_slice()
+    {
+        assert_eq!(rt; avail.bit_of(*pa), *bit, "the bit of {pa}");
     }
 }
 
@@ -35,8 +38,10 @@ fn check_pages(rt: &impl Abort, avail: &Avail) {
         (6, Some(0x401f_f000)),
         (7, Some(0x4020_0000)),
         (8, None),
-    ] {
-        assert_eq!(rt; avail.page_of(bit), page, "the page of {bit}");
+    ]
+    .as_slice()
+    {
+        assert_eq!(rt; avail.page_of(*bit), *page, "the page of {bit}");
     }
 }
 
@@ -48,37 +53,40 @@ fn bits_go_on_behind_a_gap(rt: HostRuntime) -> Result<(), Fail> {
     Ok(())
 }
 
-#[test]
-fn pages_are_whole(rt: HostRuntime) -> Result<(), Fail> {
-    let avail = Avail::new(rt.alloc(), &[(0x1fff, 0x2001), (0x3000, u64::MAX)])?;
+fn check_whole(rt: &impl Abort, avail: &Avail) {
     assert_eq!(rt;
         (avail.page_of(0), avail.page_of(1)),
         (Some(0x1000), Some(0x2000))
     );
     assert_eq!(rt; avail.bits(), (1 << 52) - 1);
     assert_eq!(rt; avail.bit_of(u64::MAX), Some((1 << 52) - 2));
+}
+
+#[test]
+fn pages_are_whole(rt: HostRuntime) -> Result<(), Fail> {
+    let avail = Avail::new(rt.alloc(), &[(0x1fff, 0x2001), (0x3000, u64::MAX)])?;
+    check_whole(&rt, &avail);
     Ok(())
+}
+
+fn is_bad(rt: &impl Abort, alloc: Global, pairs: &[(u64, u64)], index: usize) {
+    let fault = Avail::new(alloc, pairs).err();
+    assert_eq!(rt; fault, Some(AvailFault::BadAvail(index)));
 }
 
 #[test]
 fn the_first_bad_pair_is_named(rt: HostRuntime) {
-    let empty = [(0x2000, 0x2000)];
-    let shares_a_page = [(0x1000, 0x2001), (0x2fff, 0x4000), (0, 0)];
-    let falls = [(0x5000, 0x6000), (0x1000, 0x2000)];
-    for (pairs, index) in [
-        (empty.as_slice(), 0),
-        (shares_a_page.as_slice(), 1),
-        (falls.as_slice(), 1),
-    ] {
-        assert_eq!(rt;
-            Avail::new(rt.alloc(), pairs).err(),
-            Some(AvailFault::BadAvail(index))
-        );
-    }
-    assert_eq!(rt;
-        Avail::new(rt.alloc(), &[]).map(|avail| avail.bits()),
-        Ok(0)
-    );
+    let alloc = rt.alloc();
+    is_bad(&rt, alloc, &[(0x2000, 0x2000)], 0);
+    is_bad(&rt, alloc, &[(0x1000, 0x2001), (0x2fff, 0x4000), (0, 0)], 1);
+    is_bad(&rt, alloc, &[(0x5000, 0x6000), (0x1000, 0x2000)], 1);
+}
+
+#[test]
+fn no_pairs_have_no_bits(rt: HostRuntime) -> Result<(), Fail> {
+    let avail = Avail::new(rt.alloc(), &[])?;
+    assert_eq!(rt; avail.bits(), 0);
+    Ok(())
 }
 
 #[test]
@@ -114,12 +122,16 @@ fn bits_fill_bytes_from_the_lowest(rt: HostRuntime) -> Result<(), Fail> {
     Ok(())
 }
 
-#[test]
-fn bytes_are_read_as_they_were_given(rt: HostRuntime) -> Result<(), Fail> {
-    let map = Bitmap::from_bytes(rt.alloc(), &[0xf9, 0x80])?;
+fn check_sixteen(rt: &impl Abort, map: &Bitmap) {
     assert_eq!(rt; (map.byte(0), map.byte(1), map.byte(2)), (0xf9, 0x80, 0));
     assert!(rt; map.has(15) && !map.has(14) && map.has(0) && !map.has(1));
     assert_eq!(rt; map.count(), 7);
+}
+
+#[test]
+fn bytes_are_read_as_they_were_given(rt: HostRuntime) -> Result<(), Fail> {
+    let map = Bitmap::from_bytes(rt.alloc(), &[0xf9, 0x80])?;
+    check_sixteen(&rt, &map);
     Ok(())
 }
 
@@ -169,9 +181,15 @@ fn check_ranks(rt: &impl Abort, map: &Bitmap, index: &RankIndex)
         (1024, 41),
         (1099, 41),
         (1100, 42),
-    ] {
-        assert!(rt; bit <= 1100);
-        assert_eq!(rt; index.rank(map, bit, &mut steps), rank, "the rank of {bit}");
+    ]
+    .as_slice()
+    {
+        assert!(rt; *bit <= 1100);
+        assert_eq!(rt;
+            index.rank(map, *bit, &mut steps),
+            *rank,
+            "the rank of {bit}"
+        );
     }
 }
 
@@ -187,9 +205,11 @@ fn check_selects(rt: &impl Abort, map: &Bitmap, index: &RankIndex)
         (11, 500),
         (23, 512),
         (41, 1099),
-    ] {
-        assert!(rt; rank < 42);
-        assert_eq!(rt; index.select(map, rank), bit, "the bit of rank {rank}");
+    ]
+    .as_slice()
+    {
+        assert!(rt; *rank < 42);
+        assert_eq!(rt; index.select(map, *rank), *bit, "the bit of rank {rank}");
     }
 }
 

@@ -2,10 +2,10 @@
 ghost use Rattle.std.specs.Prelude.{IsTrue};
 ghost use Rattle.fd_mini.specs.Layout.{is_current};
 
-use crate::{
+use fd_bytes::Arch;
+use fd_mini::{
     MiniFault, MiniField, MiniHeader, Places, places_of, read_header, unit_of, write_header,
 };
-use fd_bytes::Arch;
 
 // The header of a small riscv machine's minidump.
 const SMALL: MiniHeader = MiniHeader {
