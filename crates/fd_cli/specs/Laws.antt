@@ -31,6 +31,7 @@ use Rattle.fd_cli.specs.Rows.Read.{bytes_answer, read_row}
 use Rattle.fd_cli.specs.Rows.Save.{save_row}
 use Rattle.fd_cli.specs.declared.answer.Answer.TheVariants.{Dump, Saved}
 use Rattle.fd_words.specs.declared.command.Command.{Command}
+use Rattle.fd_words.specs.declared.command.Command.TheVariants as command
 use Rattle.fd_cli.specs.declared.refusal.Refusal.{Refusal}
 use Rattle.fd_cli.specs.declared.refusal.Refusal.TheVariants.{Judged}
 use Rattle.fd_words.specs.declared.source.Source.{Source}
@@ -39,11 +40,16 @@ use Rattle.fd_words.specs.declared.source.Source.{Source}
 pub record IsSound (row : Row) : Type 0 where
   pub whole : (found : Seen) (w : Work) → row.Does found w → row.Leaves found w.added
   pub starved : (found : Seen) (added : Added) → row.Starves found added → row.Leaves found added
-  pub silent : (found : Seen) → row.Says found []
+  pub silent : (found : Seen) (added : Added) → row.Says found added []
 
 -- the row of commands that use no network
 abbrev pub IsLocal : Row → Type 0
 IsLocal row = (row.blames.link ≡ false) × (row.blames.ports ≡ false)
+
+-- a command whose work is one step, of which it then tells: each but a drill
+abbrev pub IsOneStep : Option Command → Type 0
+IsOneStep (Some (command.Drill source stop va count)) = ⊥
+IsOneStep other = Unit {0}
 
 -- what a row leaves over what was found, and the site then tells
 pub record Left (row : Row) (found : Seen) (new : Option Contents) : Type 0 where
@@ -56,13 +62,13 @@ pub record Refines (found : Seen) (row other : Row) : Type 0 where
   pub does : (w : Work) → row.Does found w → other.Does found w
   pub leaves : (added : Added) → row.Leaves found added → other.Leaves found added
   pub starves : (added : Added) → row.Starves found added → other.Starves found added
-  pub says : (text : List ℕ) → row.Says found text → other.Says found text
+  pub says : (added : Added) (text : List ℕ) → row.Says found added text → other.Says found added text
   pub blames : row.blames ≡ other.blames
 
--- a call that uses no network, and ended with another status than 0 or 74, added nothing
+-- a call of one step that uses no network, and ended with another status than 0 or 74, added nothing
 abbrev pub OnlyDoneOrFailedAdds : Type 0
 OnlyDoneOrFailedAdds =
-    (command : Option Command) (old new : Outside) (status : ℕ) → IsLocal (row_of command) → Call (row_of command) old new status
+    (command : Option Command) (old new : Outside) (status : ℕ) → IsOneStep command → IsLocal (row_of command) → Call (row_of command) old new status
     → (status ≡ 0) ⊎ ((status ≡ 74) ⊎ Grew old.reach new.reach nothing)
 
 -- what a call finds that comes next
