@@ -56,11 +56,10 @@ pub(crate) fn look(socket: &UdpSocket, out: &mut [u8]) -> io::Result<Option<Arri
 }
 
 /// Goes on to the next look of a wait that began then, if there is one: in all a wait takes less than a millisecond. The first
-/// looks give way to other programs alone, later ones sleep as short as the system can. A sleep of a millisecond would leave
+/// looks follow at once, later ones behind the shortest sleep that the system has. A sleep of a millisecond would leave
 /// datagrams lying, and a timeout of the socket takes eight.
 pub(crate) fn nap<R: Clock>(rt: &R, began: &Instant, looks: u32) -> io::Result<bool> {
     if looks < EAGER_LOOKS {
-        thread::yield_now();
         return Ok(true);
     }
     thread::sleep(rt, Duration::from_micros(1));
