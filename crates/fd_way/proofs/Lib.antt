@@ -6,6 +6,7 @@ mod Limits
 mod Lines
 mod Located
 mod Opening
+mod ImageWalks
 mod PageStarts
 mod PagesPrinted
 mod Pieces
