@@ -1,5 +1,5 @@
 -- What the parts of a walk give. No public clause cites these.
-use Rattle.std.specs.Prelude.{◌≡◌, ℕ, ◌+◌, ◌-◌, ◌*◌, ◌/◌, ◌%◌, ◌<◌, Bool, true, ◌||◌, not, if◌then◌else◌, min, List, length, take, slice_range, Option, Some, None, Result, Ok, Err}
+use Rattle.std.specs.Prelude.{◌≡◌, ℕ, ◌+◌, ◌-◌, ◌*◌, ◌/◌, ◌%◌, ◌<◌, Bool, true, ◌||◌, if◌then◌else◌, min, List, length, take, slice_range, Option, Some, None, Result, Ok, Err}
 use Rattle.std.specs.List.{filter_map, range_with_len}
 use Rattle.fd_site.specs.declared.fault.SiteFault.{SiteFault}
 use Rattle.fd_bytes.specs.Field.{u64_le_at}

@@ -3,11 +3,10 @@
 -- Piece by piece of the kernel window: the directory translates the piece's address as the image's tables do, and the last
 -- entry allows what the leaf there allows (`Translated`); the page stands where the set bits below say (`Located`). Bit by bit:
 -- the bits of the file are those of the image, with clear ones behind them.
-use Rattle.std.proofs.Common.{◌≡◌, ℕ, zero, suc, ◌+◌, ◌-◌, ◌*◌, ◌/◌, ◌%◌, ◌^◌, ◌<◌, ◌≤◌, min, Bool, true, false, if◌then◌else◌, not, List, [], ◌++◌, filter, length, take, get_or, Option, Some, None, Result, Ok, Err, refl, sym, ◌∙◌, ap, subst, arith, append-nil}
+use Rattle.std.proofs.Common.{◌≡◌, ℕ, ◌+◌, ◌-◌, ◌*◌, ◌/◌, ◌%◌, ◌^◌, ◌<◌, ◌≤◌, min, Bool, true, false, if◌then◌else◌, not, List, ◌++◌, filter, length, take, get_or, Option, Some, None, Result, Ok, Err, refl, sym, ◌∙◌, ap, arith, append-nil}
 use Rattle.std.specs.Int.{div_ceil}
 use Rattle.std.specs.List.{filter_map, range_with_len}
 use Rattle.std.specs.Option.{option_and_then, option_map}
-use Rattle.std.specs.Prelude.{slice_get}
 use Rattle.std.proofs.lemmas.List.{get_or-map, get_or_append_left, take-append-le, length-append, length-map}
 use Rattle.std.proofs.lemmas.Option.{slice_get-get_or, slice_get_past, unwrap_or-slice_get}
 use Rattle.fd_bytes.specs.declared.arch.Arch.{Arch}
@@ -32,7 +31,6 @@ use Rattle.fd_dump.specs.Dumped.{is_dumped, dumped_bits, pages_with_bits}
 use Rattle.fd_dump.specs.Minidump.{entry_count, mini_header_of, minidump_of}
 use Rattle.fd_dump.specs.Translation.{by_tables}
 use Rattle.fd_way.specs.ImageWalk.{image_walk, mapped_pages, page_of_translation, page_with_bit, pages_by_bit}
-use Rattle.fd_way.proofs.Limits.{AreWindows, windows_of}
 use Rattle.fd_way.proofs.Located.{with_bit}
 use Rattle.fd_way.proofs.Opening.{AreReadBack, clear_bits, opens, sections_of}
 use Rattle.fd_way.proofs.Translated.{by_directory_is, protection_is}

@@ -1,5 +1,5 @@
 -- What a printer printed of the pages that it was given, and of which walk they are.
-use Rattle.std.proofs.Common.{◌≡◌, ℕ, ◌+◌, ◌-◌, ◌*◌, ◌^◌, ◌<◌, ◌≤◌, Bool, true, false, min, List, [], ◌∷◌, ◌++◌, length, take, Option, Some, None, Result, Ok, Err, IsErr, OnErr, refl, sym, ap, subst, ◌∙◌, arith, append_assoc, append-nil, inl, inr}
+use Rattle.std.proofs.Common.{◌≡◌, ℕ, ◌+◌, ◌^◌, ◌<◌, ◌≤◌, Bool, true, false, min, List, [], ◌∷◌, ◌++◌, length, take, Option, Some, None, Result, Ok, Err, IsErr, OnErr, refl, sym, ap, subst, ◌∙◌, arith, append_assoc, append-nil, inl, inr}
 use Rattle.std.specs.List.{flat_map}
 use Rattle.std.proofs.Math.Seq.{take-append-add, take-length}
 use Rattle.std.proofs.lemmas.Bool.{cases_lt}
@@ -15,7 +15,7 @@ use Rattle.fd_vmcore.specs.Sections.{Sections}
 use Rattle.fd_kvm.specs.Visits.{AreFirst, AreOfWalk, IsWalk, Took, TookAll, TookUpTo}
 use Rattle.fd_kvm.specs.Walk.{walk_of}
 use Rattle.fd_kvm.specs.declared.page.Page.{Page}
-use Rattle.fd_way.specs.PagesPrinted.{IsCut, IsLine, IsPagesPrinted, Prints, sink_of}
+use Rattle.fd_way.specs.PagesPrinted.{IsPagesPrinted, Prints, sink_of}
 use Rattle.fd_way.specs.PagesText.{count_line, page_line, pages_text}
 use Rattle.fd_way.specs.declared.pages.PagesFault.{PagesFault}
 use Rattle.fd_way.specs.declared.pages.Printer.{Printer}

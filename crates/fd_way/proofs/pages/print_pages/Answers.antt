@@ -1,6 +1,5 @@
 -- What the sink has after a walk that was printed, or of which some was.
-use Rattle.std.proofs.Common.{◌≡◌, true, false, length, take, refl, sym, ap, subst, ◌∙◌, arith}
-use Rattle.std.specs.Prelude.{ℕ}
+use Rattle.std.proofs.Common.{◌≡◌, take, refl, sym, ap, ◌∙◌, arith}
 use Rattle.fd_site.specs.Trace.{grown}
 use Rattle.fd_way.proofs.PagesPrinted.{ended_cut, ended_lines, ended_site, last_cut, last_line, took_faults, took_cause, took_reference}
 use Rattle.fd_way.proofs.pages.print_pages.Goals as goal

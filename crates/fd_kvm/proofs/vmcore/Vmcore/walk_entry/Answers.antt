@@ -1,5 +1,5 @@
 -- The pages of an entry are those of its pieces by the entry that was read.
-use Rattle.std.proofs.Common.{◌≡◌, ℕ, ◌+◌, ◌-◌, ◌*◌, ◌/◌, Option, List, [], min, sym, ap, subst, ◌∙◌, refl, arith}
+use Rattle.std.proofs.Common.{◌≡◌, ℕ, ◌+◌, ◌-◌, ◌*◌, ◌/◌, Option, [], min, sym, ap, subst, ◌∙◌, refl, arith}
 use Rattle.fd_site.specs.Contents.{file_of}
 use Rattle.fd_bytes.specs.Field.{u64_le_at}
 use Rattle.fd_mini.specs.Layout.{entry_height_of, unit_of}
