@@ -90,6 +90,12 @@ abbrev pub IsTable : List ℕ → Sections → (kind found : Kind) → (table : 
 IsTable f s (Table place) found table = IsTableAt f (Table place) (page_offset s place) found table
 IsTable f s kind found table = found ≡ kind
 
+-- the block of 4096 bytes of the directory in which the entry of this index stands
+abbrev pub IsBlock : List ℕ → Sections → (index : ℕ) → (block : List ℕ) → Type 0
+IsBlock f s index block =
+    let place = (places_of s.header).directory + 4096 * (index / 512) in
+    block ≡ slice_range f place (place + 4096)
+
 -- how many pieces an entry of the directory maps
 abbrev pub entry_pieces : Sections → ℕ
 entry_pieces s = unit_of s.header / 4096
