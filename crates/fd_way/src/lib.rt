@@ -4,6 +4,8 @@
 
 pub mod laws;
 mod pages;
+#[cfg(test)]
+mod pages_tests;
 mod text;
 
 pub use pages::{PagesFault, print_pages};
