@@ -1,5 +1,5 @@
-//! The whole way of a dump: what reading an image's minidump gives is what the image gives, and the text in which bytes
-//! are printed. Stands on the definitions of `fd_dump` and of `fd_kvm`; reads as kvm(3) does.
+//! The whole way of a dump: what reading and walking an image's minidump gives is what the image gives, and the text in
+//! which bytes and pages are printed. Stands on the definitions of `fd_dump` and of `fd_kvm`; reads as kvm(3) does.
 #![tactic(auto)]
 
 pub mod laws;
