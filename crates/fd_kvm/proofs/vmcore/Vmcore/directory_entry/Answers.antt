@@ -1,5 +1,5 @@
 -- The entry stands in the block that was read, just now or for an entry before.
-use Rattle.std.proofs.Common.{◌≡◌, ℕ, ◌+◌, ◌*◌, ◌/◌, ◌%◌, List, length, slice_range, sym, ap, subst, ◌∙◌, arith}
+use Rattle.std.proofs.Common.{◌≡◌, ◌+◌, ◌*◌, ◌/◌, ◌%◌, length, slice_range, sym, ap, subst, ◌∙◌, arith}
 use Rattle.fd_site.specs.Contents.{file_of}
 use Rattle.fd_bytes.specs.Field.{u64_le_at}
 use Rattle.fd_mini.specs.Places.{places_of}

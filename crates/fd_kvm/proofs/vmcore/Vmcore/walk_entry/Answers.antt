@@ -1,18 +1,15 @@
 -- The pages of an entry are those of its pieces by the entry that was read.
 use Rattle.std.proofs.Common.{◌≡◌, ℕ, ◌+◌, ◌-◌, ◌*◌, ◌/◌, Option, [], min, sym, ap, subst, ◌∙◌, refl, arith}
-use Rattle.fd_site.specs.Contents.{file_of}
 use Rattle.fd_bytes.specs.Field.{u64_le_at}
 use Rattle.fd_mini.specs.Layout.{entry_height_of, unit_of}
 use Rattle.fd_mini.specs.Places.{places_of}
 use Rattle.fd_mini.specs.declared.header.MiniHeader.{MiniHeader}
 use Rattle.fd_pte.specs.Architecture.{kind_of}
-use Rattle.fd_kvm.specs.OpenFile.{HasBlock}
 use Rattle.fd_kvm.specs.Parts.{count_of_entry, entry_pieces, page_by_kind, pages_by_kind, pages_of_entry}
 use Rattle.fd_kvm.specs.Visits.{AreGiven, Took}
 use Rattle.fd_kvm.specs.Walk.{piece_count}
 use Rattle.fd_kvm.specs.declared.page.Page.{Page}
 use Rattle.fd_kvm.proofs.Pieces.{entry_low, entry_there, pages_of_read_entry}
-use Rattle.fd_kvm.proofs.Standing.{entry_block, of_file}
 use Rattle.fd_kvm.proofs.Visited.{failed_first, failed_goes, given_few, mapped_few, marked_none}
 use Rattle.fd_kvm.proofs.vmcore.Vmcore.walk_entry.Goals as goal
 
