@@ -7,4 +7,4 @@ mod Pieces
 mod Placed
 mod Quotients
 mod Standing
-mod Visited
+pub mod Visited

@@ -1,5 +1,5 @@
 -- The pages of a file have numbers, by their places in it.
-use Rattle.std.proofs.Common.{◌≡◌, ℕ, ◌+◌, ◌*◌, ◌<◌, Bool, true, false, if◌then◌else◌, Option, Some, None, take, refl, sym, arith}
+use Rattle.std.proofs.Common.{◌≡◌, ℕ, ◌+◌, ◌*◌, Bool, true, false, if◌then◌else◌, Option, Some, None, take, refl, arith}
 use Rattle.std.specs.Option.{option_and_then}
 use Rattle.fd_bitmap.specs.Bits.{set_count}
 use Rattle.fd_bitmap.specs.Pages.{bit_of}

@@ -1,5 +1,5 @@
 -- The pages that aren't marked are those that the kernel window doesn't map.
-use Rattle.std.proofs.Common.{◌≡◌, ℕ, zero, suc, ◌+◌, ◌*◌, ◌<◌, ◌≤◌, ◌==◌, Bool, true, false, ◌||◌, not, if◌then◌else◌, List, [], ◌∷◌, ◌++◌, length, take, filter, get_or, replicate, Option, Some, None, Result, Ok, Err, IsErr, OnErr, refl, sym, ap, subst, ◌∙◌, arith, append_assoc}
+use Rattle.std.proofs.Common.{◌≡◌, ℕ, zero, suc, ◌+◌, ◌*◌, ◌<◌, Bool, true, false, ◌||◌, not, if◌then◌else◌, List, ◌∷◌, ◌++◌, length, take, filter, replicate, Option, Some, None, Result, Ok, Err, IsErr, OnErr, refl, sym, ap, subst, ◌∙◌, arith, append_assoc}
 use Rattle.std.specs.Prelude.{slice_get, unwrap_or}
 use Rattle.std.specs.List.{cons_option, filter_map, range_with_len}
 use Rattle.std.specs.Option.{option_map, option_and_then}
@@ -9,7 +9,7 @@ use Rattle.std.proofs.lemmas.List.Sums.{count_by_more_no, count_by_more_yes}
 use Rattle.fd_site.specs.declared.fault.SiteFault.{SiteFault}
 use Rattle.fd_bitmap.specs.Bits.{set_count}
 use Rattle.fd_bitmap.specs.Pages.{page_of}
-use Rattle.fd_vmcore.specs.Sections.{Sections, has_bit, offset_of_bit}
+use Rattle.fd_vmcore.specs.Sections.{Sections, has_bit}
 use Rattle.fd_vmcore.proofs.Opened.{one_more_set}
 use Rattle.fd_kvm.specs.Parts.{AreMarked, first_place, other_page, other_pages, unless_marked}
 use Rattle.fd_kvm.specs.Visits.{AreFirst, AreGiven, AreOfWalk}

@@ -1,5 +1,5 @@
 -- The pages of pieces of the kernel window by the directory's entry, and by the file.
-use Rattle.std.proofs.Common.{◌≡◌, ℕ, ◌+◌, ◌-◌, ◌*◌, ◌/◌, ◌%◌, ◌^◌, ◌<◌, ◌≤◌, ◌⊎◌, inl, inr, Bool, true, false, if◌then◌else◌, nat_le, min, List, [], ◌++◌, length, take, drop, slice_range, Option, Some, None, Result, Ok, Err, refl, sym, ap, subst, ◌∙◌, arith, append_assoc}
+use Rattle.std.proofs.Common.{◌≡◌, ℕ, ◌+◌, ◌-◌, ◌*◌, ◌/◌, ◌%◌, ◌^◌, ◌<◌, ◌≤◌, ◌⊎◌, inl, inr, Bool, true, false, if◌then◌else◌, nat_le, min, List, [], ◌++◌, take, drop, slice_range, Option, Some, None, Result, Ok, Err, refl, sym, ap, subst, ◌∙◌, arith, append_assoc}
 use Rattle.std.specs.Int.{w64, div_ceil, from_le_bytes}
 use Rattle.std.specs.List.{filter_map, range_with_len}
 use Rattle.std.proofs.lemmas.List.{take-take, drop-take, drop-drop}
@@ -62,6 +62,14 @@ pub entry_there : (h : MiniHeader) (index : ℕ) → unit_of h / 4096 * index < 
 entry_there h index within = there_by (unit_of h) (unit_of h / 4096) (h.pmapsize / 8) index (each_of h) (omega arith)
 
 -- each of its pieces has that entry
+low_by : (unit each index count : ℕ) → ((unit ≡ 4096) × (each ≡ 1)) ⊎ ((unit ≡ 2097152) × (each ≡ 512)) → each * index < count → count ≤ 2 ^ 52 → index < 2 ^ 52
+low_by unit each index count (inl one) within few = (let P : ℕ → Type 0 = λ n. n * index < count in let w = subst P one.1 within in omega arith)
+low_by unit each index count (inr many) within few = (let P : ℕ → Type 0 = λ n. n * index < count in let w = subst P many.1 within in omega arith)
+
+-- there are few of them
+pub entry_low : (h : MiniHeader) (index : ℕ) → unit_of h / 4096 * index < piece_count h → index < 2 ^ 52
+entry_low h index within = low_by (unit_of h) (unit_of h / 4096) index (piece_count h) (each_of h) within (omega arith)
+
 same_entry_by : (unit each index piece : ℕ) → ((unit ≡ 4096) × (each ≡ 1)) ⊎ ((unit ≡ 2097152) × (each ≡ 512)) → each * index ≤ piece → piece < each * index + each → 4096 * piece / unit ≡ index
 same_entry_by unit each index piece (inl one) low high = rw one.0 (let a : 1 * index ≤ piece = subst (λ n. n * index ≤ piece) one.1 low in let b : piece < 1 * index + 1 = subst (λ n. piece < n * index + n) one.1 high in omega arith)
 same_entry_by unit each index piece (inr many) low high = rw many.0 (let a : 512 * index ≤ piece = subst (λ n. n * index ≤ piece) many.1 low in let b : piece < 512 * index + 512 = subst (λ n. piece < n * index + n) many.1 high in omega arith)
@@ -92,7 +100,7 @@ same_entry h index piece low high =
     ap (λ n. n / unit_of h) away ∙ same_entry_by (unit_of h) (unit_of h / 4096) index piece (each_of h) low high
 
 -- a word of a page table that was read
-word_read : (f table : List ℕ) (place at : ℕ) → table ≡ slice_range f place (place + 4096) → at + 8 ≤ 4096 → u64_le_at table at ≡ u64_le_at f (place + at)
+pub word_read : (f table : List ℕ) (place at : ℕ) → table ≡ slice_range f place (place + 4096) → at + 8 ≤ 4096 → u64_le_at table at ≡ u64_le_at f (place + at)
 unfolding u64_le_at
 word_read f table place at read within =
     let size : place + 4096 - place ≡ at + (4096 - at) = omega arith in

@@ -1,13 +1,13 @@
 -- What a visitor took part by part, and which pages were marked.
 use Rattle.std.proofs.Common.{◌≡◌, ℕ, zero, suc, ◌+◌, ◌-◌, ◌*◌, ◌<◌, ◌≤◌, Bool, true, false, ◌||◌, nat_eq, List, [], ◌∷◌, ◌++◌, length, Option, Some, None, Result, Ok, Err, IsErr, refl, sym, ap, subst, ◌∙◌, arith, append_assoc, append-nil}
-use Rattle.std.specs.List.{cons_option, filter_map, list_any, range_with_len}
+use Rattle.std.specs.List.{cons_option, filter_map, range_with_len}
 use Rattle.std.proofs.lemmas.List.{length-append}
 use Rattle.std.proofs.lemmas.List.Folds.{list_any-append}
 use Rattle.std.proofs.lemmas.List.Elements.{filter_map-append}
 use Rattle.fd_site.specs.declared.fault.SiteFault.{SiteFault}
 use Rattle.fd_vmcore.specs.Sections.{Sections, has_bit}
 use Rattle.fd_kvm.specs.Parts.{AreMarked, AreOfPart, IsPart, IsTaken, first_place, goes_on}
-use Rattle.fd_kvm.specs.Visits.{AreFirst, AreGiven, Took, TookAll, TookUpTo}
+use Rattle.fd_kvm.specs.Visits.{AreFirst, AreGiven, Took, TookAll}
 use Rattle.fd_kvm.specs.Walk.{has_page}
 use Rattle.fd_kvm.specs.declared.page.Page.{Page}
 

@@ -1,5 +1,5 @@
 -- What the parts of a walk give. No public clause cites these.
-use Rattle.std.specs.Prelude.{◌≡◌, ℕ, ◌+◌, ◌-◌, ◌*◌, ◌/◌, ◌%◌, ◌<◌, Bool, true, ◌||◌, not, if◌then◌else◌, min, List, length, take, slice_range, Option, Some, None, Result, Ok, Err}
+use Rattle.std.specs.Prelude.{◌≡◌, ℕ, ◌+◌, ◌-◌, ◌*◌, ◌/◌, ◌%◌, ◌<◌, Bool, true, ◌||◌, if◌then◌else◌, min, List, length, take, slice_range, Option, Some, None, Result, Ok, Err}
 use Rattle.std.specs.List.{filter_map, range_with_len}
 use Rattle.fd_site.specs.declared.fault.SiteFault.{SiteFault}
 use Rattle.fd_bytes.specs.Field.{u64_le_at}
@@ -89,6 +89,12 @@ IsTableAt f kind (Some place) found table = (found ≡ kind) × (table ≡ slice
 abbrev pub IsTable : List ℕ → Sections → (kind found : Kind) → (table : List ℕ) → Type 0
 IsTable f s (Table place) found table = IsTableAt f (Table place) (page_offset s place) found table
 IsTable f s kind found table = found ≡ kind
+
+-- the block of 4096 bytes of the directory in which the entry of this index stands
+abbrev pub IsBlock : List ℕ → Sections → (index : ℕ) → (block : List ℕ) → Type 0
+IsBlock f s index block =
+    let place = (places_of s.header).directory + 4096 * (index / 512) in
+    block ≡ slice_range f place (place + 4096)
 
 -- how many pieces an entry of the directory maps
 abbrev pub entry_pieces : Sections → ℕ

@@ -1,17 +1,20 @@
 //! The walk of all dumped pages.
-ghost use Rattle.std.specs.Prelude.{◌≡◌, ℕ, ◌+◌, ◌*◌, ◌^◌, ◌<◌, ◌≤◌, false, List, Some, IfOk, IfSome, OnErr, length, replicate, take};
+ghost use Rattle.std.specs.Prelude.{◌≡◌, ℕ, ◌+◌, ◌*◌, ◌^◌, ◌<◌, ◌/◌, ◌%◌, ◌≢◌, ◌≤◌, false, List, Some, IfOk, IfSome, OnErr, OnOk, length, replicate, take};
 ghost use Rattle.fd_site.specs.Contents.{Told, file_of};
 ghost use Rattle.fd_site.specs.Fault.{Rose};
 ghost use Rattle.fd_site.specs.Seen.{Untouched};
 ghost use Rattle.fd_bitmap.specs.Bits.{set_count};
+ghost use Rattle.fd_bytes.specs.Field.{u64_le_at};
+ghost use Rattle.fd_mini.specs.Places.{places_of};
 ghost use Rattle.fd_kvm.specs.OpenFile.{StandsWith};
-ghost use Rattle.fd_kvm.specs.Parts.{AreOfPart, IsPart, IsTable, IsTaken, count_of_entry, entry_pieces, goes_on, other_page, other_pages, pages_of_entry};
+ghost use Rattle.fd_kvm.specs.Parts.{AreOfPart, IsBlock, IsPart, IsTable, IsTaken, count_of_entry, entry_pieces, goes_on, other_page, other_pages, pages_of_entry};
 ghost use Rattle.fd_kvm.specs.Visits.{AreGiven, AreOfWalk, IsWalk};
 ghost use Rattle.fd_kvm.specs.Walk.{piece_count, walk_of, window_pages};
 
 use crate::page::{Page, Visit};
 use crate::vmcore::Vmcore;
 use fd_bitmap::Bitmap;
+use fd_bytes::get_u64_le;
 use fd_cache::Pages;
 use fd_mini::{MiniHeader, entry_height_of, unit_of};
 use fd_pte::{Kind, entry_kind};
@@ -27,6 +30,33 @@ fn piece_count(header: &MiniHeader) -> u64
 }
 
 impl Vmcore {
+    // The entry of this index of the directory, of which `block` holds the last 4096 bytes that were read.
+    fn directory_entry<S: Site>(
+        &self,
+        pages: &mut Pages,
+        site: &mut S,
+        block: &mut [u8; 4096],
+        index: u64,
+    ) -> Result<u64, SiteFault>
+        requires stands { Told (S.seen site.old).told (StandsWith self.now pages.old) }
+        requires inside { index < self.now.sections.header.pmapsize / 8 }
+        requires low { index < 2 ^ 52 }
+        requires kept { index % 512 ≢ 0 → Told (S.seen site.old).told (λ c. (f : List ℕ) → file_of c self.now.name ≡ Some f → IsBlock f self.now.sections index block.old) }
+        ensures entry { IfOk result (λ bits. Told (S.seen site.old).told (λ c. (f : List ℕ) → file_of c self.now.name ≡ Some f
+            → bits ≡ u64_le_at f ((places_of self.now.sections.header).directory + 8 * index))) }
+        ensures kept { OnOk result (Told (S.seen site.old).told (λ c. (f : List ℕ) → file_of c self.now.name ≡ Some f → IsBlock f self.now.sections index block.new)) }
+        ensures stands { Told (S.seen site.new).told (StandsWith self.now pages.new) }
+        ensures untouched { Untouched (S.seen site.old) (S.seen site.new) }
+        ensures cause { OnErr result (Rose (S.seen site.old).faults (S.seen site.new).faults) }
+    {
+        if index % 512 == 0 {
+            let place = self.directory() + 8 * index;
+            self.read_block(pages, site, place, block)?;
+            return Ok(get_u64_le(block, 0));
+        }
+        Ok(get_u64_le(block, 8 * (index % 512) as usize))
+    }
+
     // The kind of an entry, with the page table that it names. Where that isn't dumped, the entry stands for nothing.
     fn read_table<S: Site>(
         &self,
@@ -61,19 +91,22 @@ impl Vmcore {
         walked: &mut Bitmap,
         site: &mut S,
         visit: &mut V,
+        block: &mut [u8; 4096],
         index: u64,
     ) -> Result<bool, SiteFault>
         requires stands { Told (S.seen site.old).told (StandsWith self.now pages.old) }
+        requires kept { index % 512 ≢ 0 → Told (S.seen site.old).told (λ c. (f : List ℕ) → file_of c self.now.name ≡ Some f → IsBlock f self.now.sections index block.old) }
         requires marks { length walked.old ≡ set_count self.now.sections.bits }
         requires inside { entry_pieces self.now.sections * index < piece_count self.now.sections.header }
         ensures part { IsPart V.took self.now.sections visit.old visit.new walked.old walked.new (goes_on result) (λ pages. (length pages ≤ count_of_entry self.now.sections index)
             × Told (S.seen site.old).told (λ c. (f : List ℕ) → file_of c self.now.name ≡ Some f → AreOfPart (pages_of_entry f self.now.sections index) pages result)) }
+        ensures kept { OnOk result (Told (S.seen site.old).told (λ c. (f : List ℕ) → file_of c self.now.name ≡ Some f → IsBlock f self.now.sections index block.new)) }
         ensures stands { Told (S.seen site.new).told (StandsWith self.now pages.new) }
         ensures untouched { Untouched (S.seen site.old) (S.seen site.new) }
         ensures cause { OnErr result (Rose (S.seen site.old).faults (S.seen site.new).faults) }
     {
         let header = self.header();
-        let bits = self.read_entry(pages, site, self.directory() + 8 * index)?;
+        let bits = self.directory_entry(pages, site, block, index)?;
         let mut table = [0; 4096];
         let kind = entry_kind(header.arch, bits, entry_height_of(header));
         let found = self.read_table(pages, site, kind, &mut table)?;
@@ -101,8 +134,9 @@ impl Vmcore {
     {
         let header = self.header();
         let entries = piece_count(header).div_ceil(unit_of(header) / 4096);
+        let mut block = [0; 4096];
         for index in 0..entries {
-            if !self.walk_entry(pages, walked, site, visit, index)? {
+            if !self.walk_entry(pages, walked, site, visit, &mut block, index)? {
                 return Ok(false);
             }
         }

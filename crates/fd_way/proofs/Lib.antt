@@ -6,6 +6,7 @@ mod Digits
 mod Errors
 mod FileText
 mod FirstSectors
+mod ImageWalks
 mod ImageWords
 mod LastSectors
 mod Limits

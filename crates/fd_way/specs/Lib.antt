@@ -1,3 +1,4 @@
+pub mod ImageWalk
 pub mod PagesPrinted
 pub mod PagesText
 pub mod Drill

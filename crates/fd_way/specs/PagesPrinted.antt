@@ -18,6 +18,7 @@ pub record IsLine {O : Type 0} (seen : O → Watched ℕ) (old : Printer O) (pag
   pub faults : (sink_of seen old).faults ≤ (sink_of seen new).faults
   pub count : new.count ≡ min (old.count + 1) (2 ^ 64 - 1)
   pub failed : new.failed ≡ old.failed
+  pub same_reference : new.out.ghost_name ≡ old.out.ghost_name
 
 -- the sink failed, and has some of the line
 pub record IsCut {O : Type 0} (seen : O → Watched ℕ) (old : Printer O) (page : Page) (new : Printer O) : Type 0 where
@@ -26,6 +27,7 @@ pub record IsCut {O : Type 0} (seen : O → Watched ℕ) (old : Printer O) (page
   pub faults : (sink_of seen old).faults ≤ (sink_of seen new).faults
   pub cause : Rose (sink_of seen old).faults (sink_of seen new).faults
   pub failed : new.failed ≡ true
+  pub same_reference : new.out.ghost_name ≡ old.out.ghost_name
 
 -- what a printer may do with a page
 abbrev pub Prints : {O : Type 0} → (O → Watched ℕ) → Printer O → Page → (answer : Bool) → Printer O → Type 0

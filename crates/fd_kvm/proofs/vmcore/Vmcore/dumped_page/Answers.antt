@@ -1,5 +1,5 @@
 -- A page that is found has a number.
-use Rattle.std.proofs.Common.{sym, ap, ◌∙◌}
+use Rattle.std.proofs.Common.{sym, ap}
 use Rattle.fd_kvm.specs.declared.page.Page.{Page}
 use Rattle.fd_kvm.proofs.Numbered.{numbered}
 use Rattle.fd_kvm.proofs.vmcore.Vmcore.dumped_page.Goals as goal

@@ -1,8 +1,7 @@
 -- The pages of the kernel window are given, and then the others; or some of them, up to one after which no more are wanted or to
 -- a fault of the site.
-use Rattle.std.proofs.Common.{◌≡◌, ℕ, List, [], ◌++◌, length, true, false, sym, ap, subst, ◌∙◌, refl, arith}
+use Rattle.std.proofs.Common.{◌≡◌, ◌++◌, length, true, false, subst, arith}
 use Rattle.std.proofs.lemmas.List.{length-append}
-use Rattle.fd_site.specs.Contents.{file_of}
 use Rattle.fd_kvm.specs.Parts.{other_page, other_pages}
 use Rattle.fd_kvm.specs.Visits.{AreGiven, Took}
 use Rattle.fd_kvm.specs.Walk.{walk_of, window_pages}

@@ -1,27 +1,23 @@
 -- The pages of an entry are those of its pieces by the entry that was read.
-use Rattle.std.proofs.Common.{◌≡◌, ℕ, ◌+◌, ◌-◌, ◌*◌, ◌/◌, Option, List, [], min, sym, ap, subst, ◌∙◌, refl, arith}
-use Rattle.fd_site.specs.Contents.{file_of}
+use Rattle.std.proofs.Common.{◌≡◌, ℕ, ◌+◌, ◌-◌, ◌*◌, ◌/◌, Option, [], min, sym, ap, subst, ◌∙◌, refl, arith}
 use Rattle.fd_bytes.specs.Field.{u64_le_at}
 use Rattle.fd_mini.specs.Layout.{entry_height_of, unit_of}
 use Rattle.fd_mini.specs.Places.{places_of}
 use Rattle.fd_mini.specs.declared.header.MiniHeader.{MiniHeader}
 use Rattle.fd_pte.specs.Architecture.{kind_of}
-use Rattle.fd_kvm.specs.OpenFile.{HasBlock}
 use Rattle.fd_kvm.specs.Parts.{count_of_entry, entry_pieces, page_by_kind, pages_by_kind, pages_of_entry}
 use Rattle.fd_kvm.specs.Visits.{AreGiven, Took}
 use Rattle.fd_kvm.specs.Walk.{piece_count}
 use Rattle.fd_kvm.specs.declared.page.Page.{Page}
-use Rattle.fd_kvm.proofs.Pieces.{entry_there, pages_of_read_entry}
-use Rattle.fd_kvm.proofs.Standing.{entry_block, of_file}
+use Rattle.fd_kvm.proofs.Pieces.{entry_low, entry_there, pages_of_read_entry}
 use Rattle.fd_kvm.proofs.Visited.{failed_first, failed_goes, given_few, mapped_few, marked_none}
 use Rattle.fd_kvm.proofs.vmcore.Vmcore.walk_entry.Goals as goal
 
-pub read_entry-requires-clause-inside : goal.read_entry-requires-clause-inside
-read_entry-requires-clause-inside g c told is =
-    let s = c.args.self.now.sections in
-    let index = c.args.index in
-    of_file (HasBlock (c.directory.result + 8 * index)) (file_of told c.args.self.now.name) s c.args.pages.now (c.requires.stands told is)
-    (λ f there opened. subst (λ n. HasBlock (n + 8 * index) f) (sym c.directory.ensures.place) (entry_block f s index opened (entry_there s.header index c.requires.inside)))
+pub directory_entry-requires-clause-inside : goal.directory_entry-requires-clause-inside
+directory_entry-requires-clause-inside g c = entry_there c.args.self.now.sections.header c.args.index c.requires.inside
+
+pub directory_entry-requires-clause-low : goal.directory_entry-requires-clause-low
+directory_entry-requires-clause-low g c = entry_low c.args.self.now.sections.header c.args.index c.requires.inside
 
 pub returns-in_err-bits-clause-part : goal.returns-in_err-bits-clause-part
 returns-in_err-bits-clause-part g c =
@@ -74,7 +70,7 @@ returns-clause-part g c =
         ),
         (λ told is f there.
             let entry : bits ≡ u64_le_at f ((places_of s.header).directory + 8 * index) =
-            c.in_ok-bits.ensures.entry told is f there ∙ ap (λ n. u64_le_at f (n + 8 * index)) c.directory.ensures.place in
+            c.in_ok-bits.ensures.entry told is f there in
             let kind : c.entry_kind-kind.result ≡ kind_of s.header.arch bits (entry_height_of s.header) =
             c.entry_kind-kind.ensures.kind ∙ ap (kind_of c.header-header.result.now.arch bits) c.entry_height_of.ensures.value
             ∙ ap (λ (h : MiniHeader). kind_of h.arch bits (entry_height_of h)) same in

@@ -1,5 +1,5 @@
 -- The pages are given bit by bit, up to one after which no more are wanted.
-use Rattle.std.proofs.Common.{◌≡◌, ℕ, ◌<◌, ◌≤◌, ◌+◌, Bool, Option, List, length, sym, ap, ◌∙◌, arith}
+use Rattle.std.proofs.Common.{ℕ, ◌<◌, ◌+◌, Option, length, sym, ap, ◌∙◌, arith}
 use Rattle.fd_mini.specs.declared.header.MiniHeader.{MiniHeader}
 use Rattle.fd_kvm.specs.Parts.{other_page}
 use Rattle.fd_kvm.specs.declared.page.Page.{Page}

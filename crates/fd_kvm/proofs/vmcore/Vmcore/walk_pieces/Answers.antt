@@ -1,5 +1,5 @@
 -- The pages are given piece by piece, up to one after which no more are wanted.
-use Rattle.std.proofs.Common.{◌≡◌, ℕ, ◌+◌, ◌-◌, ◌*◌, Option, List, sym, ap, ◌∙◌, arith}
+use Rattle.std.proofs.Common.{◌≡◌, ℕ, ◌+◌, ◌-◌, ◌*◌, Option, sym, arith}
 use Rattle.fd_kvm.specs.Parts.{page_by_kind, pages_by_kind}
 use Rattle.fd_kvm.specs.declared.page.Page.{Page}
 use Rattle.fd_kvm.proofs.Pieces.{absent_none}

@@ -1,7 +1,6 @@
 -- The pages of the pieces so far were given, and marked.
-use Rattle.std.proofs.Common.{◌≡◌, ◌-◌, true, List}
+use Rattle.std.proofs.Common.{◌≡◌, ◌-◌, true}
 use Rattle.fd_kvm.specs.Parts.{IsPart, pages_by_kind}
-use Rattle.fd_kvm.specs.declared.page.Page.{Page}
 use Rattle.fd_kvm.proofs.vmcore.Vmcore.walk_pieces.Given as goal
 
 abbrev pub invariant-loop-piece : goal.invariant-loop-piece

@@ -1,15 +1,14 @@
 -- The pages are given entry by entry, up to one after which no more are wanted, or to a fault of the site.
-use Rattle.std.proofs.Common.{◌≡◌, ℕ, ◌+◌, ◌*◌, ◌/◌, ◌<◌, List, [], ◌++◌, length, min, true, false, sym, ap, subst, ◌∙◌, refl, arith}
+use Rattle.std.proofs.Common.{◌≡◌, ℕ, ◌+◌, ◌*◌, ◌/◌, ◌<◌, [], ◌++◌, length, slice_range, min, true, false, sym, ap, subst, ◌∙◌, refl, arith}
 use Rattle.std.specs.Int.{div_ceil}
 use Rattle.std.proofs.lemmas.List.{length-append}
-use Rattle.fd_site.specs.Contents.{file_of}
 use Rattle.fd_mini.specs.Layout.{unit_of}
+use Rattle.fd_mini.specs.Places.{places_of}
 use Rattle.fd_mini.specs.declared.header.MiniHeader.{MiniHeader}
 use Rattle.fd_vmcore.specs.Sections.{Sections}
-use Rattle.fd_kvm.specs.Parts.{AreOfPart, entry_pieces, pages_of_entries, pages_of_entry}
+use Rattle.fd_kvm.specs.Parts.{entry_pieces, pages_of_entries, pages_of_entry}
 use Rattle.fd_kvm.specs.Visits.{AreGiven, Took}
 use Rattle.fd_kvm.specs.Walk.{pages_of_pieces, piece_count, window_pages}
-use Rattle.fd_kvm.specs.declared.page.Page.{Page}
 use Rattle.fd_kvm.proofs.Pieces.{entries_all, entries_more, entries_then, few_more, first_inside}
 use Rattle.fd_kvm.proofs.Visited.{failed_first, failed_goes, marked_none, marked_then, took_then}
 use Rattle.fd_kvm.proofs.vmcore.Vmcore.walk_window.Goals as goal
@@ -39,6 +38,7 @@ loop-index-init g c = record {
           ap (pages_of_pieces f c.args.self.now.sections 0) none),
     );
   };
+  kept = λ other. absurd (other refl);
   stands = c.requires.stands;
   untouched = record { told = refl; size = refl; block = refl; count = omega arith };
 }
@@ -113,6 +113,10 @@ loop-index-preserved g c =
               ∙ sym (entries_more f s c.loop-index.index inside)),
         );
       };
+      kept = λ other told is f there.
+          let same : c.loop-index.index / 512 ≡ (c.loop-index.index + 1) / 512 = omega (arith, other) in
+          subst (λ n. c.walk_entry.new.block ≡ slice_range f ((places_of s.header).directory + 4096 * n) ((places_of s.header).directory + 4096 * n + 4096)) same
+          (c.in_ok-walk_entry.ensures.kept told (c.loop-index.invariant.untouched.told ∙ is) f there);
       stands = c.in_ok-walk_entry.ensures.stands;
       untouched = record {
         told = read.told ∙ before.told;
