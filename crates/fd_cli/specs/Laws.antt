@@ -4,7 +4,7 @@ use Rattle.fd_site.specs.Contents.{Contents, Told, part_of, with_entries}
 use Rattle.fd_site.specs.Cut.{Disk, EachCutOf, IsCut}
 use Rattle.fd_site.specs.Seen.{Seen}
 use Rattle.fd_site.specs.Trace.{LinkEvent}
-use Rattle.fd_image.specs.Image.{MachineImage}
+use Rattle.fd_image.specs.Image.{IsValid, MachineImage}
 use Rattle.fd_kdh.specs.Header.{dump_header}
 use Rattle.fd_dump.specs.Header.{header_of}
 use Rattle.fd_dump.specs.KernelRead.{kernel_read}
@@ -17,6 +17,7 @@ use Rattle.fd_info.specs.Saved.{IsSaved}
 use Rattle.fd_save.specs.Saving.{device_name, parity_of}
 use Rattle.fd_save.specs.declared.saved.Options.{Options}
 use Rattle.fd_judge.specs.declared.why.Why.TheVariants.{Cleared}
+use Rattle.fd_kvm.specs.Answer.{answer_of}
 use Rattle.fd_cli.specs.Crash.{IsCutOfDump, IsCutOfSavecore, LeavesSavedFiles}
 use Rattle.fd_cli.specs.Ending.{Call, answer_status}
 use Rattle.fd_cli.specs.Row.{Added, Grew, Outside, Row, Work, nothing, only}
@@ -192,3 +193,13 @@ ClearedIsRefused =
     → IsSized found → (save_row options false).Does found save → answer_status save.answer ≡ 0
     → again.force ≡ false → (save_row again keep).Does (after found save) next
     → Told found.told (λ c. Refuses (Judged Cleared) next)
+
+-- every kernel read of an image's minidump gives the image's bytes, or the fault that the image defines
+abbrev pub EachReadIsTheImages : Type 0
+EachReadIsTheImages = (m : MachineImage) (va count : ℕ) → IsValid m → answer_of (minidump_of m) va count ≡ Ok (kernel_read m va count)
+
+-- the headline: what becomes of a dump that is cut, of one that is sent, and of reads
+pub record IsHeadline : Type 0 where
+  pub cut : EachCutDumpIsSavedWhole
+  pub sent : EachNetdumpIsDelivered
+  pub read : EachReadIsTheImages
