@@ -55,7 +55,7 @@ torn_by_failed part at bytes kept zero these fits = record { count = length kept
 torn_by_failed part at bytes kept (suc k) these fits = record { count = length kept; kept = kept; inside = fits; is = refl }
 
 -- a cut of entries that began a write and more: it tears the write, or the write is done and it is a cut of the rest
-first_write : (part : List ℕ) (e : Entry) (es : List Entry) (at : ℕ) (bytes : List ℕ) (kept : List Bool) (ws : List Entry) (k : ℕ) (these : List Bool)
+pub first_write : (part : List ℕ) (e : Entry) (es : List Entry) (at : ℕ) (bytes : List ℕ) (kept : List Bool) (ws : List Entry) (k : ℕ) (these : List Bool)
     → length bytes % 512 ≡ 0 → IsBegun (Part at bytes kept ∷ ws) (e ∷ es)
     → IsTorn part at bytes (part_cut part (e ∷ es) k these)
     ⊎ ((later : ℕ) × IsBegun ws es × (part_cut part (e ∷ es) k these ≡ part_cut (written part at bytes kept) es later these))

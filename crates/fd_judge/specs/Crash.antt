@@ -34,3 +34,7 @@ pub record IsThisDump (body : List ℕ) (h : Header) (block : ℕ) (part : List 
 -- refused, or this dump
 abbrev pub IsRefusedOrThis : List ℕ → Header → ℕ → List ℕ → Type 0
 IsRefusedOrThis body h block part = IsRefused block part ⊎ IsThisDump body h block part
+
+-- as it was, refused, or this dump
+abbrev pub IsOldOrRefusedOrThis : (old body : List ℕ) → Header → ℕ → List ℕ → Type 0
+IsOldOrRefusedOrThis old body h block part = (part ≡ old) ⊎ IsRefusedOrThis body h block part

@@ -5,6 +5,8 @@
 
 pub mod laws;
 #[cfg(test)]
+mod marked_tests;
+#[cfg(test)]
 mod tests;
 mod verdict;
 mod why;

@@ -14,7 +14,7 @@ use std::process::Abort;
 use std::test::Fail;
 
 // The header of a dump of so many bytes of a riscv machine.
-fn header(block: u32, extent: u64) -> Header
+pub(crate) fn header(block: u32, extent: u64) -> Header
     ensures labels { FitsFields result }
     ensures dumplength { result.dumplength ≡ extent }
     ensures dumpextent { result.dumpextent ≡ extent }
@@ -43,7 +43,7 @@ fn small() -> Header
 }
 
 // A zero partition.
-fn partition(alloc: Global, size: u64, block: u32) -> Result<MemSite, AllocError>
+pub(crate) fn partition(alloc: Global, size: u64, block: u32) -> Result<MemSite, AllocError>
     ensures fresh { IfOk result (λ site. site.disk.journal ≡ []) }
     ensures size { IfOk result (λ site. length site.disk.base_part ≡ size) }
 {
@@ -77,7 +77,7 @@ fn verdict<S: Site>(rt: &impl Abort, site: &mut S) -> Result<Verdict, SiteFault>
 }
 
 // Why the partition is refused, or None where it is judged a dump.
-fn refusal<S: Site>(rt: &impl Abort, site: &mut S) -> Result<Option<Why>, SiteFault> {
+pub(crate) fn refusal<S: Site>(rt: &impl Abort, site: &mut S) -> Result<Option<Why>, SiteFault> {
     match verdict(rt, site)? {
         Verdict::Refused(why) => Ok(Some(why)),
         Verdict::Dump { .. } => Ok(None),
@@ -98,7 +98,7 @@ fn has<S: Site>(rt: &impl Abort, site: &mut S, place: u32, bytes: &[u8]) -> Resu
 }
 
 // Whether the partition is judged a dump with this header at this place, and has these bytes there.
-fn is_dump<S: Site>(
+pub(crate) fn is_dump<S: Site>(
     rt: &impl Abort,
     site: &mut S,
     header: &Header,

@@ -38,3 +38,9 @@ abbrev pub OnNoRoom : Result Wrote PartFault → Type 0 → Type 0
 OnNoRoom (Ok wrote) P = Unit {0}
 OnNoRoom (Err (NoRoom room)) P = P
 OnNoRoom (Err SiteFault) P = Unit {0}
+
+-- the same of an answer that says no more where all was written
+abbrev pub OnLacking : Result Unit PartFault → Type 0 → Type 0
+OnLacking (Ok done) P = Unit {0}
+OnLacking (Err (NoRoom room)) P = P
+OnLacking (Err SiteFault) P = Unit {0}

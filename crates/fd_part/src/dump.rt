@@ -1,6 +1,6 @@
 //! The writer of a dump.
 
-ghost use Rattle.std.specs.Prelude.{◌≡◌, ℕ, ◌+◌, ◌*◌, ◌%◌, ◌<◌, ◌≤◌, ◌^◌, length, take, IfOk, IfSome, IsErrOf, IsSomeAnd, IsTrue, OnErr};
+ghost use Rattle.std.specs.Prelude.{◌≡◌, ℕ, ◌+◌, ◌*◌, ◌%◌, ◌<◌, ◌≤◌, ◌^◌, length, take, IfNone, IfOk, IfSome, IsErrOf, IsSomeAnd, IsTrue, OnErr};
 ghost use Rattle.fd_site.specs.Contents.{Adds};
 ghost use Rattle.fd_site.specs.Fault.{Rose};
 ghost use Rattle.fd_site.specs.Seen.{Frame};
@@ -64,6 +64,24 @@ fn write_parts<S: Site, P: Pieces>(
     }
 }
 
+/// Why the partition has no room for a dump with this header, if it has none.
+pub(crate) fn lacking<S: Site>(site: &S, header: &Header) -> Option<NoRoom>
+    requires { header.now.dumpextent ≤ 2 ^ 62 }
+    ensures some { IfSome result (λ room. room ≡ record { need = need_of (S.seen site.now).block header.now.dumpextent; have = (S.seen site.now).size }) }
+    ensures lacks { IfSome result (λ room. (S.seen site.now).size < need_of (S.seen site.now).block header.now.dumpextent) }
+    ensures none { IfNone result (need_of (S.seen site.now).block header.now.dumpextent ≤ (S.seen site.now).size) }
+{
+    let size = site.size();
+    let need = need_of(site.block(), header.dumpextent);
+    if need > u128::from(size) {
+        return Some(NoRoom {
+            need: need as u64,
+            have: size,
+        });
+    }
+    None
+}
+
 /// Writes a dump of the bytes to come at the partition's end: each piece in one write, lent and not copied, then the
 /// leading header's block, then the trailing one. With `stop` only so many of its first sectors of 512 bytes are
 /// written; the write in which the number is used up is cut short, and an empty one isn't made. It takes no memory.
@@ -96,13 +114,8 @@ pub fn write_dump<S: Site, P: Pieces>(
     ensures frame { Frame (S.seen site.old) (S.seen site.new) }
     ensures cause { IsErrOf result PartFault.SiteFault → Rose (S.seen site.old).faults (S.seen site.new).faults }
 {
-    let size = site.size();
-    let need = need_of(site.block(), header.dumpextent);
-    if need > u128::from(size) {
-        return Err(PartFault::NoRoom(NoRoom {
-            need: need as u64,
-            have: size,
-        }));
+    if let Some(room) = lacking(site, header) {
+        return Err(PartFault::NoRoom(room));
     }
     let wrote = write_parts(site, pieces, header, stop.unwrap_or(u64::MAX))?;
     Ok(wrote)

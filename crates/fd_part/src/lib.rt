@@ -4,13 +4,17 @@
 //! follows FreeBSD's `sys/kern/kern_shutdown.c` and `sys/kerneldump.h`.
 #![tactic(auto)]
 
+mod clearing;
 mod dump;
+mod marked;
 mod outcome;
 mod partition;
 #[cfg(test)]
 mod tests;
 mod writes;
 
+pub use clearing::clear_sector;
 pub use dump::write_dump;
+pub use marked::write_marked;
 pub use outcome::{NoRoom, PartFault, Wrote};
 pub use partition::{BadPartition, good_partition, need_of};

@@ -1,17 +1,15 @@
--- What saving a dump asks of a site, whole or begun, and what clearing it does.
-use Rattle.std.specs.Prelude.{◌≡◌, ℕ, ◌+◌, List, [], ◌∷◌, ◌++◌, drop, codes}
+-- What saving a dump asks of a site, whole or begun. What clearing it does is the rule of fd_part.
+use Rattle.std.specs.Prelude.{◌≡◌, ℕ, ◌+◌, List, ◌++◌, codes}
 use Rattle.fd_bytes.specs.Field.{u32_be_at}
 use Rattle.fd_site.specs.Begun.{IsBegun}
-use Rattle.fd_site.specs.Contents.{whole_part}
 use Rattle.fd_site.specs.FileJournal.{IsFileJournal}
 use Rattle.fd_site.specs.Journal.{Entry}
-use Rattle.fd_kdh.specs.Header.{cleared_magic}
 use Rattle.fd_kdh.specs.Layout.{Parity, start_of}
 use Rattle.fd_kdh.specs.declared.header.Header.{Header}
 use Rattle.fd_info.specs.Bounds.{bounds_text}
 use Rattle.fd_info.specs.Info.{info_text}
 use Rattle.fd_info.specs.Name.{bounds_name, info_name, vmcore_name}
-use Rattle.fd_part.specs.Partition.{trailing_place}
+pub use Rattle.fd_part.specs.Clearing.{cleared_sector, clearing}
 
 -- the parity word of a header's sector
 abbrev pub parity_of : List ℕ → ℕ
@@ -36,11 +34,3 @@ pub record IsBegunSave (body : List ℕ) (h : Header) (parity number : ℕ) (add
   pub planned : List Entry
   pub is_save : IsSaveJournal body h parity number planned
   pub begun : IsBegun planned added
-
--- a header's sector once its dump is cleared: another magic, and the rest as it was (KERNELDUMPMAGIC_CLEARED)
-abbrev pub cleared_sector : List ℕ → List ℕ
-cleared_sector sector = cleared_magic ++ drop 20 sector
-
--- clearing a dump: one write of one sector, the first of the trailing block
-abbrev pub clearing : (size block : ℕ) → List ℕ → List Entry
-clearing size block sector = whole_part (trailing_place size block) (cleared_sector sector) ∷ []

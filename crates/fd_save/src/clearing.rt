@@ -7,14 +7,14 @@ ghost use Rattle.fd_site.specs.Fault.{Rose};
 ghost use Rattle.fd_site.specs.Seen.{Frame};
 ghost use Rattle.fd_part.specs.Partition.{is_good};
 ghost use Rattle.fd_save.specs.Outcome.{Clears, IsAll, MayHaveBegunToClear, OnNo, OnRefused, Refuses};
-ghost use Rattle.fd_save.specs.Saving.{cleared_sector, clearing};
+ghost use Rattle.fd_save.specs.Saving.{clearing};
 ghost use Rattle.fd_save.specs.declared.fault.SaveFault.TheVariants.{NoNumber};
 
 use crate::fault::SaveFault;
 use crate::saved::Saved;
 use fd_judge::{Verdict, judge};
-use fd_kdh::CLEARED_MAGIC;
-use fd_site::{Failed, Site, SiteFault};
+use fd_part::clear_sector;
+use fd_site::{Site, SiteFault};
 
 /// Marks a dump that was saved: its sector, with the cleared magic in place of its first 20 bytes, is written to the
 /// trailing block's first 512 bytes in one write.
@@ -47,25 +47,4 @@ pub fn clear_only<S: Site>(site: &mut S, force: bool) -> Result<(), SaveFault>
         }
         Verdict::Refused(why) => Err(SaveFault::Refused(why)),
     }
-}
-
-// Writes a header's sector, cleared, to the trailing block.
-fn clear_sector<S: Site>(site: &mut S, sector: &[u8; 512]) -> Result<(), Failed>
-    requires { IsTrue (is_good (S.seen site.old).size (S.seen site.old).block) }
-    ensures ok { OnOk result ((S.seen site.new).told ≡ with_entries (S.seen site.old).told (clearing (S.seen site.old).size (S.seen site.old).block sector.now)) }
-    ensures err { OnErr result (Adds (IsBegun (clearing (S.seen site.old).size (S.seen site.old).block sector.now)) (S.seen site.old).told (S.seen site.new).told) }
-    ensures frame { Frame (S.seen site.old) (S.seen site.new) }
-    ensures cause { OnErr result (Rose (S.seen site.old).faults (S.seen site.new).faults) }
-{
-    let cleared = cleared_sector(sector);
-    let at = site.size() - u64::from(site.block());
-    site.write_part(at, &cleared)
-}
-
-fn cleared_sector(sector: &[u8; 512]) -> [u8; 512]
-    ensures { result ≡ cleared_sector sector.now }
-{
-    let mut cleared = *sector;
-    cleared[..20].copy_from_slice(&CLEARED_MAGIC);
-    cleared
 }
