@@ -1,6 +1,7 @@
 -- What is saved of a dump, whole or cut, and read again.
 use Rattle.std.proofs.Common.{◌≡◌, inl, inr, ℕ, ◌+◌, Bool, true, false, List, [], ◌++◌, length, slice_range, Some, refl, sym, ◌∙◌, ap, subst}
 use Rattle.fd_site.specs.Contents.{Contents, file_of, part_of, with_entries}
+use Rattle.fd_site.specs.Cut.{Disk}
 use Rattle.fd_site.specs.Journal.{Entry, stable_after}
 use Rattle.fd_site.specs.Seen.{Seen}
 use Rattle.fd_site.proofs.Told.{file_after-append, stable_after-append}
@@ -21,14 +22,14 @@ use Rattle.fd_save.specs.Saving.{IsSaveJournal, clearing, device_name, parity_of
 use Rattle.fd_save.specs.declared.saved.Options.{Options}
 use Rattle.fd_save.specs.declared.saved.Saved.{Saved}
 use Rattle.fd_cli.specs.Crash.{IsRefusedOrNamed}
-use Rattle.fd_cli.specs.Laws.{EachCutDumpIsSavedWhole, IsRefusedOrWhollySaved, ReadsWhatWasDumped, after}
+use Rattle.fd_cli.specs.Laws.{EachCutDumpIsSavedWhole, EachCutMarkedDumpIsSavedWhole, IsFoundAs, IsRefusedOrWhollySaved, ReadsWhatWasDumped, after}
 use Rattle.fd_cli.specs.Row.{Work}
 use Rattle.fd_cli.specs.Rows.Dump.{Names}
 use Rattle.fd_cli.specs.Rows.Save.{Saves, clearing_unless, save_row}
 use Rattle.fd_cli.specs.declared.answer.Answer.TheVariants as answer
 use Rattle.fd_cli.specs.declared.refusal.Refusal.{Refusal}
 use Rattle.fd_words.specs.declared.source.Source.{Source}
-use Rattle.fd_cli.proofs.Cuts.{each_dump_is_safe, whole_is_found}
+use Rattle.fd_cli.proofs.Cuts.{each_dump_is_safe, each_marked_dump_is_safe, whole_is_found}
 use Rattle.fd_cli.proofs.Dumps.{image_of}
 use Rattle.fd_cli.proofs.Images.{ReadingLaw, read_is_images}
 use Rattle.fd_cli.proofs.Outcomes.{whole_of_zero}
@@ -151,16 +152,32 @@ saved_then law options keep later w c was source m told unforced names this does
       })
 ]
 
--- the headline's first sentence
-pub each_cut_dump_is_saved_whole : SavedLaw → EachCutDumpIsSavedWhole
-each_cut_dump_is_saved_whole law source options keep found later new was now save unforced sized left told_was told_now clear k these disk le cut stands does =
+-- over a partition that a cut left, and that is refused or holds the dump, it is refused or saves it
+saved_of_cut : SavedLaw → (options : Options) (keep : Bool) (found later : Seen) (was : Contents) (source : Source) (disk : Disk) (save : Work)
+    → IsFoundAs disk found.size found.block later → options.force ≡ false → IsRefusedOrNamed was source found.block disk.part
+    → (save_row options keep).Does later save → IsRefusedOrWhollySaved was source later save
+saved_of_cut law options keep found later was source disk save stands unforced judged does =
     let block_is : found.block ≡ later.block = sym stands.block_is in
     let judged_cut : IsRefusedOrNamed was source later.block (part_of stands.contents) =
     subst (λ part. IsRefusedOrNamed was source later.block part) (sym stands.part)
-    (subst (λ b. IsRefusedOrNamed was source b disk.part) block_is (each_dump_is_safe source found new sized left was now told_was told_now k these disk le cut clear)) in
+    (subst (λ b. IsRefusedOrNamed was source b disk.part) block_is judged) in
     elim judged_cut [
       | inl refused ↦ refused_then options keep later save stands.contents was source stands.told unforced refused does
       | inr (m, names, this) ↦ saved_then law options keep later save stands.contents was source m stands.told unforced names this does
+    ]
+
+-- the headline's first sentence
+pub each_cut_dump_is_saved_whole : SavedLaw → EachCutDumpIsSavedWhole
+each_cut_dump_is_saved_whole law source options keep found later new was now save unforced sized left told_was told_now clear k these disk le cut stands does =
+    saved_of_cut law options keep found later was source disk save stands unforced
+    (each_dump_is_safe source found new sized left was now told_was told_now k these disk le cut clear) does
+
+-- and the same of a dump that marks first: the partition is as it was, or that
+pub each_cut_marked_dump_is_saved_whole : SavedLaw → EachCutMarkedDumpIsSavedWhole
+each_cut_marked_dump_is_saved_whole law source options keep found later new was now save unforced sized left told_was told_now k these disk le cut stands does =
+    elim (each_marked_dump_is_safe source found new sized left was now told_was told_now k these disk le cut) [
+      | inl old ↦ inl old
+      | inr judged ↦ inr (saved_of_cut law options keep found later was source disk save stands unforced judged does)
     ]
 
 -- `savecore` that says that it saved under a number saved under that number
@@ -179,12 +196,12 @@ saved_under options keep found w number len does is = elim (refused_or_saved opt
 
 -- what was dumped, saved and read is the image's
 pub reads_what_was_dumped : SavedLaw → ReadingLaw → ReadsWhatWasDumped
-reads_what_was_dumped saved_law law source options keep found dump save read number len va count unforced sized does zero saves saved reads c told =
-    let whole = whole_of_zero source found dump does zero in
+reads_what_was_dumped saved_law law mark source options keep found dump save read number len va count unforced sized does zero saves saved reads c told =
+    let whole = whole_of_zero mark source found dump does zero in
     let image = image_of found source whole.image whole.given c told in
     let dumped : Contents = then_adds c dump.added.entries in
     let told_dumped : with_entries found.told dump.added.entries ≡ Some dumped = ap (λ t. with_entries t dump.added.entries) told in
-    let this = whole_is_found found source dump (with_entries found.told dump.added.entries) sized whole refl c dumped told told_dumped in
+    let this = whole_is_found mark found source dump (with_entries found.told dump.added.entries) sized whole refl c dumped told told_dumped in
     let under = saved_under options keep (after found dump) save number len saves saved in
     let of = save_of_this options keep (after found dump) save dumped whole.image told_dumped unforced under.0 this in
     let there = saved_after saved_law options keep (after found dump) save dumped under.0 in

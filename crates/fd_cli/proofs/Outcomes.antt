@@ -49,40 +49,41 @@ judge_adds_nothing force found w does =
     (λ bad refused. refused_adds_nothing _ w refused)
 
 -- a whole dump was written, with room
-pub record IsWhole (source : Source) (found : Seen) (w : Work) : Type 0 where
+pub record IsWhole (mark : Bool) (source : Source) (found : Seen) (w : Work) : Type 0 where
   pub image : MachineImage
   pub given : IsGiven source found (Ok image)
   pub good : IsTrue (is_good found.size found.block)
   pub room : need_of found.block (length (minidump_of image)) ≤ found.size
-  pub dumps : Dumps found.size found.block image w
+  pub dumps : Dumps mark found.told found.size found.block image w
 
 -- `dump` was refused, or wrote the whole dump
-abbrev pub IsRefusedOrWhole : Source → Seen → Work → Type 0
-IsRefusedOrWhole source found w = ((refusal : Refusal) × Refuses refusal w) ⊎ IsWhole source found w
+abbrev pub IsRefusedOrWhole : (mark : Bool) → Source → Seen → Work → Type 0
+IsRefusedOrWhole mark source found w = ((refusal : Refusal) × Refuses refusal w) ⊎ IsWhole mark source found w
 
 has_bytes : (found : Seen) (len : ℕ) → has_room found.size found.block len ≡ true → need_of found.block len ≤ found.size
 has_bytes found len room = grind (arith, nat_tests, room)
 
-by_image : (source : Source) (found : Seen) (w : Work) (given : Result MachineImage ImageFault) → IsTrue (is_good found.size found.block)
-    → IsGiven source found given → ByImage found given w → IsRefusedOrWhole source found w
-by_image source found w (Ok m) good given does =
-    either (has_room found.size found.block (length (minidump_of m))) (Dumps found.size found.block m w) _ (IsRefusedOrWhole source found w) does
+by_image : (mark : Bool) (source : Source) (found : Seen) (w : Work) (given : Result MachineImage ImageFault) → IsTrue (is_good found.size found.block)
+    → IsGiven source found given → ByImage mark found given w → IsRefusedOrWhole mark source found w
+by_image mark source found w (Ok m) good given does =
+    either (has_room found.size found.block (length (minidump_of m))) (Dumps mark found.told found.size found.block m w) _ (IsRefusedOrWhole mark source found w) does
     (λ room dumps. inr (record { image = m; given = given; good = good; room = has_bytes found _ room; dumps = dumps }))
     (λ short refused. inl (_, refused))
-by_image source found w (Err image.NoFile) good given does = inl (NoFile, does)
-by_image source found w (Err (image.NotImage place)) good given does = inl (NotImage place, does)
-by_image source found w (Err (image.BadImage bad)) good given does = inl (BadImage bad, does)
-by_image source found w (Err image.SiteFault) good given does = absurd does
-by_image source found w (Err image.NoMemory) good given does = absurd does
+by_image mark source found w (Err image.NoFile) good given does = inl (NoFile, does)
+by_image mark source found w (Err (image.NotImage place)) good given does = inl (NotImage place, does)
+by_image mark source found w (Err (image.BadImage bad)) good given does = inl (BadImage bad, does)
+by_image mark source found w (Err image.SiteFault) good given does = absurd does
+by_image mark source found w (Err image.NoMemory) good given does = absurd does
 
-pub refused_or_whole : (source : Source) (found : Seen) (w : Work) → (dump_row source).Does found w → IsRefusedOrWhole source found w
-refused_or_whole source found w does =
-    either (is_good found.size found.block) (DumpsSource source found w) _ (IsRefusedOrWhole source found w) does
-    (λ good d. by_image source found w d.0 good d.1 d.2) (λ bad refused. inl (_, refused))
+pub refused_or_whole : (mark : Bool) (source : Source) (found : Seen) (w : Work) → (dump_row mark source).Does found w → IsRefusedOrWhole mark source found w
+refused_or_whole mark source found w does =
+    either (is_good found.size found.block) (DumpsSource mark source found w) _ (IsRefusedOrWhole mark source found w) does
+    (λ good d. by_image mark source found w d.0 good d.1 d.2) (λ bad refused. inl (_, refused))
 
 -- `dump` that ended with 0 wrote the whole dump
-pub whole_of_zero : (source : Source) (found : Seen) (w : Work) → (dump_row source).Does found w → answer_status w.answer ≡ 0 → IsWhole source found w
-whole_of_zero source found w does zero = elim (refused_or_whole source found w does) [
+pub whole_of_zero : (mark : Bool) (source : Source) (found : Seen) (w : Work) → (dump_row mark source).Does found w → answer_status w.answer ≡ 0
+    → IsWhole mark source found w
+whole_of_zero mark source found w does zero = elim (refused_or_whole mark source found w does) [
   | inl refused ↦ absurd (refused_not_zero refused.0 w refused.1 zero)
   | inr whole ↦ whole
 ]

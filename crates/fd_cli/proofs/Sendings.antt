@@ -1,5 +1,5 @@
 -- The work of `netdump`, by its functions' outcomes.
-use Rattle.std.proofs.Common.{◌≡◌, inl, inr, ℕ, ◌+◌, ◌≤◌, List, [], ◌∷◌, length, Option, Result, Ok, Err, IsErr, IsErrOf}
+use Rattle.std.proofs.Common.{◌≡◌, inl, inr, ℕ, ◌+◌, ◌≤◌, false, List, [], ◌∷◌, length, Option, Result, Ok, Err, IsErr, IsErrOf}
 use Rattle.std.proofs.Common.{refl, sym, ◌∙◌, ap, subst, arith}
 use Rattle.std.specs.Result.{IsErrAnd}
 use Rattle.fd_site.specs.Fault.{Rose}
@@ -99,7 +99,7 @@ broken_off server m limits old opened new fault fault_is limits_are opened_is gr
 }
 
 -- what an image's reading refuses, whatever would be done with an image
-pub refuses_all : (P : MachineImage → Work → Type 0) (found : Seen) (fault : ImageFault) (w : Work) → ByImage found (Err fault) w → OnImage P (Err fault) w
+pub refuses_all : (P : MachineImage → Work → Type 0) (found : Seen) (fault : ImageFault) (w : Work) → ByImage false found (Err fault) w → OnImage P (Err fault) w
 refuses_all P found image.NoFile w is = is
 refuses_all P found (image.NotImage place) w is = is
 refuses_all P found (image.BadImage bad) w is = is

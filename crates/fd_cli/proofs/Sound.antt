@@ -2,10 +2,12 @@
 use Rattle.std.proofs.Common.{◌≡◌, ◌⊎◌, inl, inr, ℕ, Bool, true, false, List, [], Option, Some, None, Result, Ok, Err, refl, sym, ◌∙◌, ap, subst}
 use Rattle.fd_bytes.specs.declared.arch.Arch.{Arch}
 use Rattle.fd_site.specs.Begun.{IsBegun}
+use Rattle.fd_site.specs.Journal.{Entry}
 use Rattle.fd_site.specs.Seen.{Seen}
 use Rattle.fd_site.proofs.Begun.{IsBegun-whole}
 use Rattle.fd_dump.specs.Header.{header_of}
 use Rattle.fd_dump.specs.Minidump.{minidump_of}
+use Rattle.fd_kdh.specs.declared.header.Header.{Header}
 use Rattle.fd_part.proofs.WholeDump.{IsBegunDump-whole}
 use Rattle.fd_cli.specs.Ending.{Ends, answer_status}
 use Rattle.fd_cli.specs.Laws.{AddsEntriesAlone, IsLocal, IsOneStep, IsSound, OnlyDoneOrFailedAdds}
@@ -19,7 +21,7 @@ use Rattle.fd_imgfile.specs.declared.fault.ImageFault.{ImageFault}
 use Rattle.fd_imgfile.specs.declared.fault.ImageFault.TheVariants as image
 use Rattle.fd_part.specs.Partition.{is_good}
 use Rattle.fd_cli.proofs.Good.{either}
-use Rattle.fd_cli.specs.Rows.Dump.{OnImage, HasBegun, MayHaveBegun, dump_row}
+use Rattle.fd_cli.specs.Rows.Dump.{OnImage, HasBegun, IsBegunOver, IsDumpOver, MayHaveBegun, dump_row}
 use Rattle.fd_cli.specs.Rows.Clear.{MayHaveBegunToClear, clear_row}
 use Rattle.fd_cli.specs.Rows.Image.{image_row}
 use Rattle.fd_cli.specs.Rows.Save.{MayHaveBegunToSave, save_row}
@@ -36,25 +38,30 @@ may_be_silent (Some (command.Image arch number file)) found added = refl
 may_be_silent (Some (command.Judge force)) found added = refl
 may_be_silent (Some (command.Clear force)) found added = refl
 may_be_silent (Some (command.Save options keep)) found added = refl
-may_be_silent (Some (command.Dump source)) found added = refl
+may_be_silent (Some (command.Dump mark source)) found added = refl
 may_be_silent (Some (command.Netdump source server)) found added = refl
 may_be_silent (Some (command.Netdumpd dumps)) found added = refl
 may_be_silent (Some (command.Read name va count)) found added = refl
 may_be_silent (Some (command.Drill source stop va count)) found added = inl refl
 
 -- a whole dump was begun
-begun : (source : Source) (found : Seen) (w : Work) (whole : IsWhole source found w) → HasBegun found.size found.block whole.image w.added
-begun source found w whole = record {
+begun_over : (mark : Bool) (found : Seen) (body : List ℕ) (h : Header) (journal : List Entry) → IsDumpOver mark found.told found.size found.block body h journal
+    → IsBegunOver mark found.told found.size found.block body h journal
+begun_over false found body h journal dump = IsBegunDump-whole body h found.size found.block journal dump
+begun_over true found body h journal dump = λ c told. record { planned = journal; is_marked = dump c told; begun = IsBegun-whole journal }
+
+begun : (mark : Bool) (source : Source) (found : Seen) (w : Work) (whole : IsWhole mark source found w) → HasBegun mark found.told found.size found.block whole.image w.added
+begun mark source found w whole = record {
   good = whole.good;
   room = whole.room;
-  begun = IsBegunDump-whole (minidump_of whole.image) (header_of whole.image found.block) found.size found.block w.added.entries whole.dumps.is_dump;
+  begun = begun_over mark found (minidump_of whole.image) (header_of whole.image found.block) w.added.entries whole.dumps.is_dump;
   alone = whole.dumps.alone;
 }
 
-dump_leaves : (source : Source) (found : Seen) (w : Work) → (dump_row source).Does found w → MayHaveBegun source found w.added
-dump_leaves source found w does = elim (refused_or_whole source found w does) [
+dump_leaves : (mark : Bool) (source : Source) (found : Seen) (w : Work) → (dump_row mark source).Does found w → MayHaveBegun mark source found w.added
+dump_leaves mark source found w does = elim (refused_or_whole mark source found w does) [
   | inl refused ↦ inl (refused_adds_nothing refused.0 w refused.1)
-  | inr whole ↦ inr (whole.image, whole.given, begun source found w whole)
+  | inr whole ↦ inr (whole.image, whole.given, begun mark source found w whole)
 ]
 
 -- a whole file was begun
@@ -109,7 +116,7 @@ sound (Some (command.Image arch number file)) local =
 sound (Some (command.Clear force)) local = record { whole = clear_leaves force; starved = λ found added is. inl is; silent = λ found added. refl }
 sound (Some (command.Save options keep)) local = record { whole = save_leaves options keep; starved = λ found added is. inl is; silent = λ found added. refl }
 sound (Some (command.Judge force)) local = record { whole = judge_adds_nothing force; starved = λ found added is. is; silent = λ found added. refl }
-sound (Some (command.Dump source)) local = record { whole = dump_leaves source; starved = λ found added is. inl is; silent = λ found added. refl }
+sound (Some (command.Dump mark source)) local = record { whole = dump_leaves mark source; starved = λ found added is. inl is; silent = λ found added. refl }
 sound (Some (command.Netdump source server)) local = absurd (no_bool local.0)
 sound (Some (command.Netdumpd dumps)) local = absurd (no_bool local.1)
 sound (Some (command.Read name va count)) local =
@@ -133,7 +140,7 @@ adds_with_zero (Some (command.Save options keep)) found w one local does = elim 
   | inl refused ↦ inr (refused_adds_nothing refused.0 w refused.1)
   | inr saved ↦ inl (ap answer_status saved.1.answer)
 ]
-adds_with_zero (Some (command.Dump source)) found w one local does = elim (refused_or_whole source found w does) [
+adds_with_zero (Some (command.Dump mark source)) found w one local does = elim (refused_or_whole mark source found w does) [
   | inl refused ↦ inr (refused_adds_nothing refused.0 w refused.1)
   | inr whole ↦ inl (ap answer_status whole.dumps.answer)
 ]
@@ -148,7 +155,7 @@ starves_with_nothing (Some (command.Image arch number file)) found added one loc
 starves_with_nothing (Some (command.Judge force)) found added one local is = is
 starves_with_nothing (Some (command.Clear force)) found added one local is = is
 starves_with_nothing (Some (command.Save options keep)) found added one local is = is
-starves_with_nothing (Some (command.Dump source)) found added one local is = is
+starves_with_nothing (Some (command.Dump mark source)) found added one local is = is
 starves_with_nothing (Some (command.Netdump source server)) found added one local is = is
 starves_with_nothing (Some (command.Netdumpd dumps)) found added one local is = absurd (no_bool local.1)
 starves_with_nothing (Some (command.Read name va count)) found added one local is = is
@@ -195,7 +202,7 @@ adds_entries_alone (Some (command.Image arch number file)) found added local lef
 adds_entries_alone (Some (command.Judge force)) found added local left = none_alone added left
 adds_entries_alone (Some (command.Clear force)) found added local left = elim left [ inl none ↦ none_alone added none | inr begun ↦ begun.alone ]
 adds_entries_alone (Some (command.Save options keep)) found added local left = elim left [ inl none ↦ none_alone added none | inr begun ↦ begun.alone ]
-adds_entries_alone (Some (command.Dump source)) found added local left = elim left [ inl none ↦ none_alone added none | inr begun ↦ begun.2.alone ]
+adds_entries_alone (Some (command.Dump mark source)) found added local left = elim left [ inl none ↦ none_alone added none | inr begun ↦ begun.2.alone ]
 adds_entries_alone (Some (command.Netdump source server)) found added local left = absurd (no_bool local.0)
 adds_entries_alone (Some (command.Netdumpd dumps)) found added local left = absurd (no_bool local.1)
 adds_entries_alone (Some (command.Read name va count)) found added local left = none_alone added left

@@ -27,6 +27,10 @@ IsRefusedOrNamed c source block part =
 abbrev pub IsCutOfDump : Source → (block : ℕ) → Contents → Disk → Type 0
 IsCutOfDump source block was disk = IsClear (part_of was) block → IsRefusedOrNamed was source block disk.part
 
+-- over any partition, a cut of a dump that marks first is as it was, or refused, or a dump of the image
+abbrev pub IsCutOfMarkedDump : Source → (block : ℕ) → Contents → Disk → Type 0
+IsCutOfMarkedDump source block was disk = (disk.part ≡ part_of was) ⊎ IsRefusedOrNamed was source block disk.part
+
 -- judging finds the dump of the image that its source named
 abbrev pub IsFound : (old new : Option Contents) → Source → (block : ℕ) → Type 0
 IsFound old new source block =

@@ -1,5 +1,5 @@
 -- Laws over rows: what holds of every row, and what follows where calls come one after another.
-use Rattle.std.specs.Prelude.{◌≡◌, ◌⊎◌, ℕ, ◌≤◌, Bool, false, List, [], length, Option, Some, None, Ok}
+use Rattle.std.specs.Prelude.{◌≡◌, ◌⊎◌, ℕ, ◌≤◌, Bool, true, false, List, [], length, Option, Some, None, Ok}
 use Rattle.fd_site.specs.Contents.{Contents, Told, part_of, with_entries}
 use Rattle.fd_site.specs.Cut.{Disk, EachCutOf, IsCut}
 use Rattle.fd_site.specs.Seen.{Seen}
@@ -18,7 +18,7 @@ use Rattle.fd_save.specs.Saving.{device_name, parity_of}
 use Rattle.fd_save.specs.declared.saved.Options.{Options}
 use Rattle.fd_judge.specs.declared.why.Why.TheVariants.{Cleared}
 use Rattle.fd_kvm.specs.Answer.{answer_of}
-use Rattle.fd_cli.specs.Crash.{IsCutOfDump, IsCutOfSavecore, LeavesSavedFiles}
+use Rattle.fd_cli.specs.Crash.{IsCutOfDump, IsCutOfMarkedDump, IsCutOfSavecore, LeavesSavedFiles}
 use Rattle.fd_cli.specs.Ending.{Call, answer_status}
 use Rattle.fd_cli.specs.Row.{Added, Grew, Outside, Row, Work, nothing, only}
 use Rattle.fd_cli.specs.Rows.{row_of}
@@ -83,21 +83,28 @@ IsSized found = Told found.told (λ c. length (part_of c) ≡ found.size)
 -- after a `dump` that ended with 0, `savecore -C` answers the length of the image's minidump
 abbrev pub JudgeFindsDump : Type 0
 JudgeFindsDump =
-    (source : Source) (found : Seen) (dump judge : Work) → IsSized found → (dump_row source).Does found dump → answer_status dump.answer ≡ 0
+    (mark : Bool) (source : Source) (found : Seen) (dump judge : Work) → IsSized found → (dump_row mark source).Does found dump → answer_status dump.answer ≡ 0
     → (judge_row false).Does (after found dump) judge
     → Told found.told (λ c. (m : MachineImage) × Names c source m × (judge.answer ≡ Dump (length (minidump_of m))))
 
 -- wherever a machine stops in what `dump` left, over a partition that was clear: judging refuses it, or finds the image's dump
 abbrev pub EachDumpIsSafe : Type 0
 EachDumpIsSafe =
-    (source : Source) (found : Seen) (new : Option Contents) → IsSized found → Left (dump_row source) found new
+    (source : Source) (found : Seen) (new : Option Contents) → IsSized found → Left (dump_row false source) found new
     → EachCutOf found.told new (IsCutOfDump source found.block)
+
+-- wherever a machine stops in what `dump -i` left, over any partition: it is as it was, or judging refuses it, or finds the
+-- image's dump
+abbrev pub EachMarkedDumpIsSafe : Type 0
+EachMarkedDumpIsSafe =
+    (source : Source) (found : Seen) (new : Option Contents) → IsSized found → Left (dump_row true source) found new
+    → EachCutOf found.told new (IsCutOfMarkedDump source found.block)
 
 -- `dump`, then a `savecore` that saves, then `read` of the saved file: the image's bytes, or its refusal
 abbrev pub ReadsWhatWasDumped : Type 0
 ReadsWhatWasDumped =
-    (source : Source) (options : Options) (keep : Bool) (found : Seen) (dump save read : Work) (number len va count : ℕ)
-    → options.force ≡ false → IsSized found → (dump_row source).Does found dump → answer_status dump.answer ≡ 0
+    (mark : Bool) (source : Source) (options : Options) (keep : Bool) (found : Seen) (dump save read : Work) (number len va count : ℕ)
+    → options.force ≡ false → IsSized found → (dump_row mark source).Does found dump → answer_status dump.answer ≡ 0
     → (save_row options keep).Does (after found dump) save → save.answer ≡ Saved number len
     → (read_row (vmcore_name number) va count).Does (after (after found dump) save) read
     → Told found.told (λ c. (m : MachineImage) × Names c source m × (read.answer ≡ bytes_answer va (kernel_read m va count)))
@@ -127,10 +134,18 @@ IsRefusedOrWhollySaved c source found w = ((refusal : Refusal) × Refuses refusa
 abbrev pub EachCutDumpIsSavedWhole : Type 0
 EachCutDumpIsSavedWhole =
     (source : Source) (options : Options) (keep : Bool) (found later : Seen) (new : Option Contents) (was now : Contents) (save : Work)
-    → options.force ≡ false → IsSized found → Left (dump_row source) found new → found.told ≡ Some was → new ≡ Some now
+    → options.force ≡ false → IsSized found → Left (dump_row false source) found new → found.told ≡ Some was → new ≡ Some now
     → IsClear (part_of was) found.block
     → (k : ℕ) (these : List Bool) (disk : Disk) → length was.journal ≤ k → IsCut now k these disk → IsFoundAs disk found.size found.block later
     → (save_row options keep).Does later save → IsRefusedOrWhollySaved was source later save
+
+-- The same of `dump -i`, over any partition: it is as it was, or a later `savecore` is refused, or saves exactly the minidump.
+abbrev pub EachCutMarkedDumpIsSavedWhole : Type 0
+EachCutMarkedDumpIsSavedWhole =
+    (source : Source) (options : Options) (keep : Bool) (found later : Seen) (new : Option Contents) (was now : Contents) (save : Work)
+    → options.force ≡ false → IsSized found → Left (dump_row true source) found new → found.told ≡ Some was → new ≡ Some now
+    → (k : ℕ) (these : List Bool) (disk : Disk) → length was.journal ≤ k → IsCut now k these disk → IsFoundAs disk found.size found.block later
+    → (save_row options keep).Does later save → (disk.part ≡ part_of was) ⊎ IsRefusedOrWhollySaved was source later save
 
 -- wherever a machine stops in what `savecore` left, the dump that judging found stands
 abbrev pub EachSavecoreIsSafe : Type 0

@@ -1,13 +1,16 @@
-//! `dump IMAGE`.
+//! `dump [-i] IMAGE`.
 
-ghost use Rattle.std.specs.Prelude.{◌≡◌, ◌≤◌, ◌⊎◌, ℕ, Err, length, IfOk, IsErrOf, IsTrue};
+ghost use Rattle.std.specs.Prelude.{◌≡◌, ◌%◌, ◌<◌, ◌≤◌, ◌^◌, ◌⊎◌, ℕ, Err, length, IfOk, IsErrOf, IsTrue, OnOk};
+ghost use Rattle.fd_site.specs.Contents.{Adds};
 ghost use Rattle.fd_site.specs.Fault.{Rose};
 ghost use Rattle.fd_site.specs.Seen.{Frame, Untouched};
 ghost use Rattle.fd_dump.specs.Plan.{IsPlanOf};
 ghost use Rattle.fd_imgfile.specs.declared.fault.ImageFault.TheVariants.{SiteFault};
-ghost use Rattle.fd_part.specs.Partition.{is_good};
+ghost use Rattle.fd_kdh.specs.Header.{FitsFields};
+ghost use Rattle.fd_part.specs.Outcome.{OnLacking};
+ghost use Rattle.fd_part.specs.Partition.{is_good, need_of};
 ghost use Rattle.fd_cli.specs.Reply.{IsReplyOf, WorksOnSite};
-ghost use Rattle.fd_cli.specs.Rows.Dump.{dump_row, image_dump_row, IsGiven, RefusesImage};
+ghost use Rattle.fd_cli.specs.Rows.Dump.{dump_row, image_dump_row, IsBegunOver, IsDumpOver, IsGiven, RefusesImage};
 ghost use Rattle.fd_words.specs.Source.{HasGoodName};
 ghost use Rattle.fd_cli.specs.declared.answer.Answer.TheVariants.{Refused};
 
@@ -18,8 +21,9 @@ use fd_dump::Plan;
 use fd_gen::make;
 use fd_image::Image;
 use fd_imgfile::{ImageFault, read_image};
-use fd_part::{BadPartition, PartFault, good_partition, write_dump};
-use fd_site::Site;
+use fd_kdh::Header;
+use fd_part::{BadPartition, PartFault, good_partition, write_dump, write_marked};
+use fd_site::{Pieces, Site};
 use fd_words::Source;
 use std::alloc::{AllocError, Global};
 
@@ -46,16 +50,48 @@ pub(crate) fn refuse_image(alloc: Global, fault: ImageFault) -> Result<Reply, Tr
     Ok(reply)
 }
 
+// Writes a dump of these bytes, with `mark` over a header that is marked as cleared first.
+fn write_over<S: Site, P: Pieces>(
+    site: &mut S,
+    pieces: &mut P,
+    header: &Header,
+    mark: bool,
+) -> Result<(), PartFault>
+    requires partition { IsTrue (is_good (S.seen site.old).size (S.seen site.old).block) }
+    requires dumplength { header.now.dumplength ≡ length (P.to_come pieces.old) }
+    requires dumpextent { header.now.dumpextent ≡ length (P.to_come pieces.old) }
+    requires pages { length (P.to_come pieces.old) % 4096 ≡ 0 }
+    requires small { length (P.to_come pieces.old) ≤ 2 ^ 62 }
+    requires labels { FitsFields header.now }
+    requires blocksize { header.now.blocksize ≡ (S.seen site.old).block }
+    ensures room { (S.seen site.old).size < need_of (S.seen site.old).block (length (P.to_come pieces.old)) → IsErrOf result (PartFault.NoRoom (record { need = need_of (S.seen site.old).block (length (P.to_come pieces.old)); have = (S.seen site.old).size })) }
+    ensures no_room { OnLacking result ((S.seen site.old).size < need_of (S.seen site.old).block (length (P.to_come pieces.old))) }
+    ensures untouched { OnLacking result (site.new ≡ site.old) }
+    ensures whole { OnOk result (Adds (IsDumpOver mark (S.seen site.old).told (S.seen site.old).size (S.seen site.old).block (P.to_come pieces.old) header.now) (S.seen site.old).told (S.seen site.new).told) }
+    ensures fault { IsErrOf result PartFault.SiteFault → Adds (IsBegunOver mark (S.seen site.old).told (S.seen site.old).size (S.seen site.old).block (P.to_come pieces.old) header.now) (S.seen site.old).told (S.seen site.new).told }
+    ensures frame { Frame (S.seen site.old) (S.seen site.new) }
+    ensures cause { IsErrOf result PartFault.SiteFault → Rose (S.seen site.old).faults (S.seen site.new).faults }
+{
+    if mark {
+        return write_marked(site, pieces, header);
+    }
+    match write_dump(site, pieces, header, None) {
+        Ok(_) => Ok(()),
+        Err(fault) => Err(fault),
+    }
+}
+
 // Writes the dump. The reply is made first, so that no memory is wanted behind a write.
 fn write_plan<S: Site>(
     alloc: Global,
     site: &mut S,
     image: &Image,
     plan: &Plan,
+    mark: bool,
 ) -> Result<Reply, Trouble>
     requires partition { IsTrue (is_good (S.seen site.old).size (S.seen site.old).block) }
     requires plan { IsPlanOf plan.now image.now }
-    ensures works { WorksOnSite (image_dump_row image.now) (S.seen site.old) (S.seen site.new) result }
+    ensures works { WorksOnSite (image_dump_row mark image.now) (S.seen site.old) (S.seen site.new) result }
     ensures frame { Frame (S.seen site.old) (S.seen site.new) }
     ensures cause { IsErrOf result Trouble.Fault → Rose (S.seen site.old).faults (S.seen site.new).faults }
 {
@@ -67,7 +103,7 @@ fn write_plan<S: Site>(
     )?;
     let header = plan.header(image, site.block());
     let mut pieces = plan.pieces(image);
-    match write_dump(site, &mut pieces, &header, None) {
+    match write_over(site, &mut pieces, &header, mark) {
         Ok(_) => Ok(reply),
         Err(PartFault::NoRoom(room)) => {
             let reply = refuse(alloc, Refusal::NoRoom(room))?;
@@ -97,14 +133,16 @@ pub(crate) fn take_image<S: Site>(
     }
 }
 
-/// `dump IMAGE`: writes the dump of the image that comes from this source.
+/// `dump IMAGE`: writes the dump of the image that comes from this source. With `mark`, as `dump -i`, the header of the dump
+/// that stands there is marked as cleared first.
 pub(crate) fn dump_image<S: Site>(
     alloc: Global,
     site: &mut S,
     source: &Source,
+    mark: bool,
 ) -> Result<Reply, Trouble>
     requires { HasGoodName source.now }
-    ensures works { WorksOnSite (dump_row source.now) (S.seen site.old) (S.seen site.new) result }
+    ensures works { WorksOnSite (dump_row mark source.now) (S.seen site.old) (S.seen site.new) result }
     ensures frame { Frame (S.seen site.old) (S.seen site.new) }
     ensures cause { IsErrOf result Trouble.Fault → Rose (S.seen site.old).faults (S.seen site.new).faults }
 {
@@ -119,5 +157,5 @@ pub(crate) fn dump_image<S: Site>(
         Err(fault) => return refuse_image(alloc, fault),
     };
     let plan = Plan::prepare(alloc, &image)?;
-    write_plan(alloc, site, &image, &plan)
+    write_plan(alloc, site, &image, &plan, mark)
 }

@@ -1,7 +1,7 @@
 //! What follows from the rows of the commands alone.
 
 ghost use Rattle.std.specs.Prelude.{ℕ, Option};
-ghost use Rattle.fd_cli.specs.Laws.{AddsEntriesAlone, ClearedIsRefused, EachCutDumpIsSavedWhole, EachDumpIsSafe, EachNetdumpIsDelivered, EachNetdumpIsReceived, EachSavecoreIsSafe, EachSavedFileIsLeft, HasTurnsAlways, IsHeadline, IsLocal, IsRunAlways, IsSound, JudgeFindsDump, OnlyDoneOrFailedAdds, ReadsWhatWasDumped};
+ghost use Rattle.fd_cli.specs.Laws.{AddsEntriesAlone, ClearedIsRefused, EachCutDumpIsSavedWhole, EachCutMarkedDumpIsSavedWhole, EachDumpIsSafe, EachMarkedDumpIsSafe, EachNetdumpIsDelivered, EachNetdumpIsReceived, EachSavecoreIsSafe, EachSavedFileIsLeft, HasTurnsAlways, IsHeadline, IsLocal, IsRunAlways, IsSound, JudgeFindsDump, OnlyDoneOrFailedAdds, ReadsWhatWasDumped};
 ghost use Rattle.fd_cli.specs.Rows.{row_of};
 ghost use Rattle.fd_words.specs.declared.command.Command.{Command};
 ghost use Rattle.fd_words.specs.declared.source.Source.{Source};
@@ -30,10 +30,23 @@ pub fn each_dump_is_safe()
     ensures { EachDumpIsSafe }
 {}
 
+/// Whatever `dump -i` left: each cut of it, over any partition, is as it was, or refused, or is the image's dump.
+pub fn each_marked_dump_is_safe()
+    ensures { EachMarkedDumpIsSafe }
+{}
+
 /// The headline's first sentence: wherever a machine stops in a `dump` over a clear partition, a `savecore` that meets no
 /// fault refuses it, or saves exactly the image's minidump.
 pub fn each_cut_dump_is_saved_whole()
     ensures { EachCutDumpIsSavedWhole }
+{
+    each_save_is_saved();
+}
+
+/// The same of `dump -i` over any partition: it stands as it was, or a `savecore` that meets no fault refuses it, or saves
+/// exactly the image's minidump.
+pub fn each_cut_marked_dump_is_saved_whole()
+    ensures { EachCutMarkedDumpIsSavedWhole }
 {
     each_save_is_saved();
 }

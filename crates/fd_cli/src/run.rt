@@ -1,11 +1,11 @@
 //! The program's work as one call.
 
-ghost use Rattle.std.specs.Prelude.{◌≡◌, ◌≤◌, ℕ, Bool, IsErrOf, List, Some, None};
+ghost use Rattle.std.specs.Prelude.{◌≡◌, ◌≤◌, ℕ, Bool, true, false, IsErrOf, List, Some, None};
 ghost use Rattle.fd_site.specs.Cut.{EachCutOf};
 ghost use Rattle.fd_site.specs.Fault.{Rose};
 ghost use Rattle.fd_site.specs.Seen.{Frame};
 ghost use Rattle.fd_words.specs.Command.{command_of};
-ghost use Rattle.fd_cli.specs.Crash.{IsCutOfDump, IsCutOfSavecore, IsFound, LeavesSavedFiles};
+ghost use Rattle.fd_cli.specs.Crash.{IsCutOfDump, IsCutOfMarkedDump, IsCutOfSavecore, IsFound, LeavesSavedFiles};
 ghost use Rattle.fd_cli.specs.Delivered.{IsDeliveredTo};
 ghost use Rattle.fd_cli.specs.Ending.{Call, Ends};
 ghost use Rattle.fd_cli.specs.Reply.{Worked, WorksOnSite};
@@ -84,7 +84,9 @@ fn carry_out<S: Site, L: Link, P: Ports, O: Sink>(
         Some(Command::Save { options, keep }) => {
             print_reply(save_dump(alloc, site, options, keep), out)
         }
-        Some(Command::Dump { image }) => print_reply(dump_image(alloc, site, &image), out),
+        Some(Command::Dump { mark, image }) => {
+            print_reply(dump_image(alloc, site, &image, mark), out)
+        }
         Some(Command::Netdump { image, server }) => {
             print_reply(send_image(alloc, site, link, &image, server), out)
         }
@@ -115,7 +117,7 @@ fn carry_out<S: Site, L: Link, P: Ports, O: Sink>(
 /// the partition and prints `dump LENGTH`, or the refusal with status 1; `savecore -c` marks its dump as saved and prints
 /// `cleared`; `savecore` saves the dump to files, marks it unless `-k` is given, and prints `saved vmcore.N LENGTH`, or is
 /// refused with 69 where no number is free. `dump IMAGE` writes the dump of a machine image, of that file or made, and prints
-/// `dumped LENGTH`. `read FILE ADDRESS LENGTH` prints the bytes of a saved minidump at kernel addresses, 16 a line; an address
+/// `dumped LENGTH`; with `-i` it first marks the dump that stands there as cleared, so that no cut of it mixes the two. `read FILE ADDRESS LENGTH` prints the bytes of a saved minidump at kernel addresses, 16 a line; an address
 /// that has no byte is refused with 1. `netdump IMAGE ADDRESS` sends the dump of a machine image to the server of an IPv4 address and
 /// prints `sent LENGTH LASTSEQNO`; a message that isn't acknowledged is refused with 1. `netdumpd DUMPS` receives so many dumps,
 /// saves them, and prints `received vmcore.N LENGTH` for each; where its turns are spent before, that is refused with 69. A partition that can't hold a dump, a file that is no image or no minidump, and a
@@ -131,8 +133,9 @@ pub fn crashway<S: Site, L: Link, P: Ports, O: Sink>(
     out: &mut O,
 ) -> u8
     ensures call { Call (row_of (command_of words.now)) (outside (S.seen site.old) (L.seen link.old) (P.seen ports.old) (O.seen out.old)) (outside (S.seen site.new) (L.seen link.new) (P.seen ports.new) (O.seen out.new)) result }
-    ensures crash { (source : Source) → command_of words.now ≡ Some (command.Dump source) → EachCutOf (S.seen site.old).told (S.seen site.new).told (IsCutOfDump source (S.seen site.old).block) }
-    ensures found { (source : Source) → command_of words.now ≡ Some (command.Dump source) → result ≡ 0 → IsFound (S.seen site.old).told (S.seen site.new).told source (S.seen site.old).block }
+    ensures crash { (source : Source) → command_of words.now ≡ Some (command.Dump false source) → EachCutOf (S.seen site.old).told (S.seen site.new).told (IsCutOfDump source (S.seen site.old).block) }
+    ensures marked { (source : Source) → command_of words.now ≡ Some (command.Dump true source) → EachCutOf (S.seen site.old).told (S.seen site.new).told (IsCutOfMarkedDump source (S.seen site.old).block) }
+    ensures found { (mark : Bool) (source : Source) → command_of words.now ≡ Some (command.Dump mark source) → result ≡ 0 → IsFound (S.seen site.old).told (S.seen site.new).told source (S.seen site.old).block }
     ensures stopped { (options : Options) (keep : Bool) → command_of words.now ≡ Some (command.Save options keep) → EachCutOf (S.seen site.old).told (S.seen site.new).told (IsCutOfSavecore options (S.seen site.old).block) }
     ensures others { (options : Options) (keep : Bool) → command_of words.now ≡ Some (command.Save options keep) → options.max ≡ None → LeavesSavedFiles (S.seen site.old).told (S.seen site.new).told }
     ensures delivered { (source : Source) (server : ℕ) → command_of words.now ≡ Some (command.Netdump source server) → result ≡ 0 → IsDeliveredTo source server (S.seen site.old) (L.seen link.old).told (L.seen link.new).told }

@@ -15,6 +15,8 @@ mod image_files;
 #[cfg(test)]
 mod images;
 #[cfg(test)]
+mod marks;
+#[cfg(test)]
 mod networks;
 #[cfg(test)]
 mod partitions;

@@ -26,6 +26,10 @@ asks_to_clear g = g.clear && not (g.judge || (g.keep || (g.mark || g.most)))
 abbrev pub asks_to_save : Given → Bool
 asks_to_save g = not (g.judge || (g.clear || g.mark))
 
+-- `[-i]`
+abbrev pub asks_to_dump : Given → Bool
+asks_to_dump g = not (g.judge || (g.clear || (g.force || (g.keep || g.most))))
+
 -- no option
 abbrev pub asks_nothing : Given → Bool
 asks_nothing g = not (g.judge || (g.clear || (g.force || (g.keep || (g.mark || g.most)))))

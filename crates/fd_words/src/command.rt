@@ -8,7 +8,7 @@ use crate::given::Given;
 use crate::line::Line;
 use crate::savecore::savecore;
 use crate::source::Source;
-use crate::values::command_of_values;
+use crate::values::{command_of_values, dump_of};
 use crate::word::Word;
 use fd_bytes::Arch;
 use fd_save::Options;
@@ -36,8 +36,9 @@ pub enum Command {
         options: Options,
         keep: bool,
     },
-    /// `dump IMAGE`: write the dump of this image.
+    /// `dump [-i] IMAGE`: write the dump of this image, with `-i` over a dump that is marked as cleared first.
     Dump {
+        mark: bool,
         image: Source,
     },
     /// `netdump IMAGE ADDRESS`: send the dump of this image to the server of this IPv4 address.
@@ -81,6 +82,12 @@ fn command_with(
             [] => Ok(savecore(given, most)),
             _ => Ok(None),
         };
+    }
+    if name == "dump" {
+        if !given.asks_to_dump() {
+            return Ok(None);
+        }
+        return dump_of(alloc, values, given.mark);
     }
     if !given.asks_nothing() {
         return Ok(None);

@@ -1,7 +1,7 @@
 //! The options that were given, and what each form of a command asks of them.
 
 ghost use Rattle.std.specs.Prelude.{◌≡◌};
-ghost use Rattle.fd_words.specs.Given.{asks_nothing, asks_to_clear, asks_to_judge, asks_to_save, given_of};
+ghost use Rattle.fd_words.specs.Given.{asks_nothing, asks_to_clear, asks_to_dump, asks_to_judge, asks_to_save, given_of};
 
 use crate::line::Line;
 
@@ -55,6 +55,13 @@ impl Given {
         ensures { result ≡ asks_to_save self }
     {
         !(self.judge || self.clear || self.mark)
+    }
+
+    // `[-i]`
+    pub(crate) fn asks_to_dump(self) -> bool
+        ensures { result ≡ asks_to_dump self }
+    {
+        !(self.judge || self.clear || self.force || self.keep || self.most)
     }
 
     // No option.

@@ -43,12 +43,19 @@ savecore --help|none
 savecore -V|none
 savecore --version|none
 savecore x|none
-dump a.img|dump file a.img
-dump @riscv:7|dump made 2 7
+dump a.img|dump false file a.img
+dump @riscv:7|dump false made 2 7
+dump -i a.img|dump true file a.img
+dump a.img -i|dump true file a.img
+dump -i|none
+dump -i -i a.img|none
+dump -if a.img|none
+dump -i -m 1 a.img|none
+dump -i a.img b.img|none
+netdump -i a.img 1.2.3.4|none
 dump @riscv|none
 dump @i386:7|none
 dump dumpdev|none
-dump -i a.img|none
 dump -f a.img|none
 dump|none
 image amd64 0x10 a.img|image 0 16 a.img
@@ -122,8 +129,8 @@ fn tell(alloc: Global, command: &Option<Command>) -> Result<String, Fail> {
         Some(Command::Save { options, keep }) => {
             return tell_save(alloc, options.force, *keep, options.max);
         }
-        Some(Command::Dump { image }) => {
-            format!(in alloc; "dump {}", tell_source(alloc, image)?)?
+        Some(Command::Dump { mark, image }) => {
+            format!(in alloc; "dump {mark} {}", tell_source(alloc, image)?)?
         }
         Some(Command::Netdump { image, server }) => {
             format!(in alloc; "netdump {} {server}", tell_source(alloc, image)?)?

@@ -4,7 +4,7 @@ ghost use Rattle.std.specs.Prelude.{◌≡◌, IfOk, map};
 ghost use Rattle.std.specs.Option.{option_map};
 ghost use Rattle.fd_bytes.specs.Number.{number_of};
 ghost use Rattle.fd_words.specs.Address.{address_of};
-ghost use Rattle.fd_words.specs.Command.{command_of_four, command_of_one, command_of_three, command_of_two, command_of_values, drill_of, HasGoodNames, image_of, netdump_of, netdumpd_of, read_of};
+ghost use Rattle.fd_words.specs.Command.{command_of_four, command_of_one, command_of_three, command_of_two, command_of_values, drill_of, dump_of, HasGoodNames, image_of, netdump_of, netdumpd_of, read_of};
 ghost use Rattle.fd_words.specs.Source.{arch_of, source_of};
 
 use crate::address::read_address;
@@ -46,14 +46,29 @@ fn image_command(
     Ok(Some(Command::Image { arch, number, file }))
 }
 
-// `dump` of this image.
-fn dump_command(alloc: Global, image: &str) -> Result<Option<Command>, AllocError>
-    ensures value { IfOk result (λ command. command ≡ option_map (λ source. Command.Dump source) (source_of image.now)) }
+// `dump` of this image, over a dump that is marked first, or not.
+fn dump_command(alloc: Global, image: &str, mark: bool) -> Result<Option<Command>, AllocError>
+    ensures value { IfOk result (λ command. command ≡ option_map (λ source. Command.Dump mark source) (source_of image.now)) }
     ensures names { IfOk result HasGoodNames }
 {
     match read_source(alloc, image)? {
-        Some(image) => Ok(Some(Command::Dump { image })),
+        Some(image) => Ok(Some(Command::Dump { mark, image })),
         None => Ok(None),
+    }
+}
+
+/// `dump` with these values, if there is one.
+pub(crate) fn dump_of(
+    alloc: Global,
+    values: &[&str],
+    mark: bool,
+) -> Result<Option<Command>, AllocError>
+    ensures value { IfOk result (λ command. command ≡ dump_of mark (map (λ s. s.now) values.now)) }
+    ensures names { IfOk result HasGoodNames }
+{
+    match values {
+        [image] => dump_command(alloc, *image, mark),
+        _ => Ok(None),
     }
 }
 
@@ -153,9 +168,6 @@ fn command_of_one(alloc: Global, name: &str, value: &str) -> Result<Option<Comma
     ensures value { IfOk result (λ command. command ≡ command_of_one name.now value.now) }
     ensures names { IfOk result HasGoodNames }
 {
-    if name == "dump" {
-        return dump_command(alloc, value);
-    }
     if name == "netdumpd" {
         return Ok(netdumpd_command(value));
     }

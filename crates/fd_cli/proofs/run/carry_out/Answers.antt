@@ -55,7 +55,7 @@ returns-in-Some-Dump g c =
     let i = c.in-Some-Dump in
     let done = c.dump_image.ensures in
     called_by _ _ _ _ _ (sym c.in-Ok.ensures.value ∙ i.is ∙ ap (λ (x : Command). Some x) i.field-0-is)
-    (c.print_reply-in-Some-Dump.ensures (Some (command.Dump i.image)) _ _ (worked_on_site (dump_row i.image) _ _ _ _ _ done.works done.frame done.cause refl))
+    (c.print_reply-in-Some-Dump.ensures (Some (command.Dump i.mark i.image)) _ _ (worked_on_site (dump_row i.mark i.image) _ _ _ _ _ done.works done.frame done.cause refl))
 
 pub returns-in-Some-Netdump : goal.returns-in-Some-Netdump
 returns-in-Some-Netdump g c =
