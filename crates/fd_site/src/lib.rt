@@ -8,7 +8,6 @@
 mod fault;
 mod link;
 mod name;
-mod no_net;
 mod pieces;
 mod ports;
 mod sink;
@@ -18,7 +17,6 @@ mod slice_pieces;
 pub use fault::{Failed, SiteFault};
 pub use link::{Link, Polled};
 pub use name::good_name;
-pub use no_net::NoNet;
 pub use pieces::Pieces;
 pub use ports::{Peer, Ports, Taken};
 pub use sink::Sink;
