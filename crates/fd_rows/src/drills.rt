@@ -46,5 +46,12 @@ fn a_drill_reads_what_it_saved(rt: HostRuntime) -> Result<(), Fail> {
         1,
         "saved vmcore.0 32768\nrefused 24: outside at 0x0000000000000000\n",
     )?;
-    drills(&rt, alloc, "72", "0xffffffd000001000", 1, "refused 1: no dump\n")
+    drills(
+        &rt,
+        alloc,
+        "72",
+        "0xffffffd000001000",
+        1,
+        "refused 1: no dump\n",
+    )
 }
