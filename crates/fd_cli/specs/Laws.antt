@@ -218,3 +218,9 @@ pub record IsHeadline : Type 0 where
   pub cut : EachCutDumpIsSavedWhole
   pub sent : EachNetdumpIsDelivered
   pub read : EachReadIsTheImages
+
+-- the same of a dump that marks first
+pub record IsMarkedHeadline : Type 0 where
+  pub cut : EachCutMarkedDumpIsSavedWhole
+  pub sent : EachNetdumpIsDelivered
+  pub read : EachReadIsTheImages

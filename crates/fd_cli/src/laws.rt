@@ -1,7 +1,7 @@
 //! What follows from the rows of the commands alone.
 
 ghost use Rattle.std.specs.Prelude.{ℕ, Option};
-ghost use Rattle.fd_cli.specs.Laws.{AddsEntriesAlone, ClearedIsRefused, EachCutDumpIsSavedWhole, EachCutMarkedDumpIsSavedWhole, EachDumpIsSafe, EachMarkedDumpIsSafe, EachNetdumpIsDelivered, EachNetdumpIsReceived, EachSavecoreIsSafe, EachSavedFileIsLeft, HasTurnsAlways, IsHeadline, IsLocal, IsRunAlways, IsSound, JudgeFindsDump, OnlyDoneOrFailedAdds, ReadsWhatWasDumped};
+ghost use Rattle.fd_cli.specs.Laws.{AddsEntriesAlone, ClearedIsRefused, EachCutDumpIsSavedWhole, EachCutMarkedDumpIsSavedWhole, EachDumpIsSafe, EachMarkedDumpIsSafe, EachNetdumpIsDelivered, EachNetdumpIsReceived, EachSavecoreIsSafe, EachSavedFileIsLeft, HasTurnsAlways, IsHeadline, IsLocal, IsMarkedHeadline, IsRunAlways, IsSound, JudgeFindsDump, OnlyDoneOrFailedAdds, ReadsWhatWasDumped};
 ghost use Rattle.fd_cli.specs.Rows.{row_of};
 ghost use Rattle.fd_words.specs.declared.command.Command.{Command};
 ghost use Rattle.fd_words.specs.declared.source.Source.{Source};
@@ -116,6 +116,16 @@ pub fn the_headline_holds()
     ensures { IsHeadline }
 {
     each_cut_dump_is_saved_whole();
+    each_netdump_is_delivered();
+    each_read_of_a_minidump_is_the_images();
+}
+
+/// The second headline: the same of `dump -i` over any partition, which is left as it was, or refused, or saved as exactly the
+/// image's minidump.
+pub fn the_marked_headline_holds()
+    ensures { IsMarkedHeadline }
+{
+    each_cut_marked_dump_is_saved_whole();
     each_netdump_is_delivered();
     each_read_of_a_minidump_is_the_images();
 }
