@@ -18,8 +18,8 @@ mod tests;
 mod text;
 mod way_fault;
 
-pub use pages::{PagesFault, print_pages};
 pub use drilling::drill;
+pub use pages::{PagesFault, print_pages};
 pub use print::print_read;
 pub use print_fault::PrintFault;
 pub use saved_file::saved_line;
