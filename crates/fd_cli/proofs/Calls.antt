@@ -11,7 +11,7 @@ use Rattle.fd_site.specs.Trace.{LinkEvent, PortsEvent, grown}
 use Rattle.fd_site.proofs.Told.{grown-nil, with_entries-nil}
 use Rattle.fd_cli.specs.Ending.{Call}
 use Rattle.fd_cli.specs.Reply.{IsReplyOf, Worked, Works, WorksOnSite, text_bytes, trouble_status}
-use Rattle.fd_cli.specs.Row.{Blamed, Grew, Kept, Outside, Reach, Row, nothing, only, reach}
+use Rattle.fd_cli.specs.Row.{Added, Blamed, Grew, Kept, Outside, Reach, Row, nothing, only, reach}
 use Rattle.fd_cli.specs.Rows.{no_command_row, row_of}
 use Rattle.fd_cli.specs.declared.answer.Answer.TheVariants.{Refused}
 use Rattle.fd_words.specs.declared.command.Command.{Command}
@@ -52,7 +52,7 @@ kept_all blamed r = record {
 }
 
 -- what is done on the site alone
-grew_on_site : (old new : Seen) (link : Watched LinkEvent) (ports : Watched PortsEvent) (entries : List Entry) → new.told ≡ with_entries old.told entries
+pub grew_on_site : (old new : Seen) (link : Watched LinkEvent) (ports : Watched PortsEvent) (entries : List Entry) → new.told ≡ with_entries old.told entries
     → Grew (reach old link ports) (reach new link ports) (only entries)
 grew_on_site old new link ports entries told = record { site = told; link = grown-nil link.told; ports = grown-nil ports.told; spared = none_spared }
 
@@ -97,6 +97,7 @@ starves_at_once (Some (command.Dump mark source)) found = refl
 starves_at_once (Some (command.Netdump source server)) found = refl
 starves_at_once (Some (command.Netdumpd dumps)) found = inl refl
 starves_at_once (Some (command.Read name va count)) found = refl
+starves_at_once (Some (command.Drill source stop va count)) found = inr ([], inl (refl, refl))
 
 pub starved_at_once : (command : Option Command) (r : Reach) (result : Result Reply Trouble) → IsErrAnd result (λ trouble. trouble ≡ NoMemory)
     → Worked (row_of command) r r result
@@ -120,7 +121,7 @@ pub by_reply : (row : Row) (old new : Reach) (result this : Result Reply Trouble
 by_reply row old new result this is worked = subst (λ r. Worked row old new r) is worked
 
 -- a fault ended the work, before a word was printed
-failed : (row : Row) (old : Outside) (new : Reach) → row.Says old.reach.site [] → Worked row old.reach new (Err Fault)
+failed : (row : Row) (old : Outside) (new : Reach) → ((added : Added) → row.Says old.reach.site added []) → Worked row old.reach new (Err Fault)
     → Call row old (record { reach = new; sink = old.sink }) 74
 failed row old new silent worked = record {
   ends = inr (inr (inl (record {
@@ -128,7 +129,7 @@ failed row old new silent worked = record {
     leaves = worked.works.leaves;
     grew = worked.works.grew;
     early = [];
-    may_say = silent;
+    may_say = silent _;
     printed = grown-nil old.sink.told;
     status_is = refl;
     rose = worked.cause refl;
@@ -138,7 +139,7 @@ failed row old new silent worked = record {
 }
 
 -- no memory was found, before a word was printed
-pub starved : (row : Row) (old : Outside) (new : Reach) → row.Says old.reach.site [] → Worked row old.reach new (Err NoMemory)
+pub starved : (row : Row) (old : Outside) (new : Reach) → ((added : Added) → row.Says old.reach.site added []) → Worked row old.reach new (Err NoMemory)
     → Call row old (record { reach = new; sink = old.sink }) 71
 starved row old new silent worked = record {
   ends = inr (inr (inr (record {
@@ -146,7 +147,7 @@ starved row old new silent worked = record {
     starves = worked.works.starves;
     grew = worked.works.grew;
     early = [];
-    may_say = silent;
+    may_say = silent _;
     printed = grown-nil old.sink.told;
     status_is = refl;
   })));
@@ -155,12 +156,12 @@ starved row old new silent worked = record {
 }
 
 -- the work ended without a reply
-ended : (row : Row) (old : Outside) (new : Reach) (trouble : Trouble) → row.Says old.reach.site [] → Worked row old.reach new (Err trouble)
+ended : (row : Row) (old : Outside) (new : Reach) (trouble : Trouble) → ((added : Added) → row.Says old.reach.site added []) → Worked row old.reach new (Err trouble)
     → Call row old (record { reach = new; sink = old.sink }) (trouble_status trouble)
 ended row old new Fault silent worked = failed row old new silent worked
 ended row old new NoMemory silent worked = starved row old new silent worked
 
-pub ended_so : (row : Row) (old : Outside) (new : Reach) (trouble : Trouble) (status : ℕ) → status ≡ trouble_status trouble → row.Says old.reach.site []
+pub ended_so : (row : Row) (old : Outside) (new : Reach) (trouble : Trouble) (status : ℕ) → status ≡ trouble_status trouble → ((added : Added) → row.Says old.reach.site added [])
     → Worked row old.reach new (Err trouble) → Call row old (record { reach = new; sink = old.sink }) status
 ended_so row old new trouble status is silent worked = subst (Call row old (record { reach = new; sink = old.sink })) (sym is) (ended row old new trouble silent worked)
 

@@ -42,7 +42,7 @@ ends_by row other old new status finer (inr (inr (inl done))) = inr (inr (inl (r
   leaves = finer.leaves done.added done.leaves;
   grew = done.grew;
   early = done.early;
-  may_say = finer.says done.early done.may_say;
+  may_say = finer.says done.added done.early done.may_say;
   printed = done.printed;
   status_is = done.status_is;
   rose = subst (λ b. FaultRose b old.reach new.reach) finer.blames done.rose;
@@ -52,7 +52,7 @@ ends_by row other old new status finer (inr (inr (inr done))) = inr (inr (inr (r
   starves = finer.starves done.added done.starves;
   grew = done.grew;
   early = done.early;
-  may_say = finer.says done.early done.may_say;
+  may_say = finer.says done.added done.early done.may_say;
   printed = done.printed;
   status_is = done.status_is;
 })))
@@ -71,7 +71,7 @@ read_is_images law found name va count c m told valid is = record {
       does.1 ∙ ap (λ a. record { answer = a; added = nothing }) answer_is;
   leaves = λ added leaves. leaves;
   starves = λ added starves. starves;
-  says = λ text says. says;
+  says = λ added text says. says;
   blames = refl;
 }
 

@@ -4,6 +4,7 @@ mod ClientRuns
 mod Composed
 mod Cuts
 mod Delivering
+mod Drills
 mod Dumps
 mod Good
 mod Images

@@ -1,5 +1,5 @@
 -- What holds of every command's row.
-use Rattle.std.proofs.Common.{◌≡◌, ◌⊎◌, inl, inr, ℕ, Bool, true, false, List, [], Option, Some, None, refl, sym, ◌∙◌, ap, subst}
+use Rattle.std.proofs.Common.{◌≡◌, ◌⊎◌, inl, inr, ℕ, Bool, true, false, List, [], Option, Some, None, Result, Ok, Err, refl, sym, ◌∙◌, ap, subst}
 use Rattle.fd_bytes.specs.declared.arch.Arch.{Arch}
 use Rattle.fd_site.specs.Begun.{IsBegun}
 use Rattle.fd_site.specs.Journal.{Entry}
@@ -10,12 +10,18 @@ use Rattle.fd_dump.specs.Minidump.{minidump_of}
 use Rattle.fd_kdh.specs.declared.header.Header.{Header}
 use Rattle.fd_part.proofs.WholeDump.{IsBegunDump-whole}
 use Rattle.fd_cli.specs.Ending.{Ends, answer_status}
-use Rattle.fd_cli.specs.Laws.{AddsEntriesAlone, IsLocal, IsSound, OnlyDoneOrFailedAdds}
+use Rattle.fd_cli.specs.Laws.{AddsEntriesAlone, IsLocal, IsOneStep, IsSound, OnlyDoneOrFailedAdds}
 use Rattle.fd_save.specs.Saving.{clearing}
 use Rattle.fd_save.specs.declared.saved.Options.{Options}
 use Rattle.fd_cli.specs.Row.{Added, Grew, Work, nothing, only}
 use Rattle.fd_cli.specs.Rows.{row_of}
-use Rattle.fd_cli.specs.Rows.Dump.{HasBegun, IsBegunOver, IsDumpOver, MayHaveBegun, dump_row}
+use Rattle.fd_cli.specs.Rows.Drill.{Drills, DrillsSource, drill_of, drill_row}
+use Rattle.fd_image.specs.Image.{MachineImage}
+use Rattle.fd_imgfile.specs.declared.fault.ImageFault.{ImageFault}
+use Rattle.fd_imgfile.specs.declared.fault.ImageFault.TheVariants as image
+use Rattle.fd_part.specs.Partition.{is_good}
+use Rattle.fd_cli.proofs.Good.{either}
+use Rattle.fd_cli.specs.Rows.Dump.{HasBegun, IsBegunOver, IsDumpOver, MayHaveBegun, OnImage, dump_row}
 use Rattle.fd_cli.specs.Rows.Clear.{MayHaveBegunToClear, clear_row}
 use Rattle.fd_cli.specs.Rows.Image.{image_row}
 use Rattle.fd_cli.specs.Rows.Save.{MayHaveBegunToSave, save_row}
@@ -26,16 +32,17 @@ use Rattle.fd_cli.proofs.Saves.{refused_or_cleared, refused_or_saved}
 use Rattle.fd_cli.proofs.Outcomes.{IsWhole, judge_adds_nothing, refused_adds_nothing, refused_or_whole}
 
 -- a command may end without a word
-pub may_be_silent : (command : Option Command) (found : Seen) → (row_of command).Says found []
-may_be_silent None found = refl
-may_be_silent (Some (command.Image arch number file)) found = refl
-may_be_silent (Some (command.Judge force)) found = refl
-may_be_silent (Some (command.Clear force)) found = refl
-may_be_silent (Some (command.Save options keep)) found = refl
-may_be_silent (Some (command.Dump mark source)) found = refl
-may_be_silent (Some (command.Netdump source server)) found = refl
-may_be_silent (Some (command.Netdumpd dumps)) found = refl
-may_be_silent (Some (command.Read name va count)) found = refl
+pub may_be_silent : (command : Option Command) (found : Seen) (added : Added) → (row_of command).Says found added []
+may_be_silent None found added = refl
+may_be_silent (Some (command.Image arch number file)) found added = refl
+may_be_silent (Some (command.Judge force)) found added = refl
+may_be_silent (Some (command.Clear force)) found added = refl
+may_be_silent (Some (command.Save options keep)) found added = refl
+may_be_silent (Some (command.Dump mark source)) found added = refl
+may_be_silent (Some (command.Netdump source server)) found added = refl
+may_be_silent (Some (command.Netdumpd dumps)) found added = refl
+may_be_silent (Some (command.Read name va count)) found added = refl
+may_be_silent (Some (command.Drill source stop va count)) found added = inl refl
 
 -- a whole dump was begun
 begun_over : (mark : Bool) (found : Seen) (body : List ℕ) (h : Header) (journal : List Entry) → IsDumpOver mark found.told found.size found.block body h journal
@@ -103,66 +110,91 @@ no_bool is = cc
 
 -- each row that uses no network is sound
 pub sound : (command : Option Command) → IsLocal (row_of command) → IsSound (row_of command)
-sound None local = record { whole = λ found w does. ap (λ x. x.added) does; starved = λ found added is. is; silent = λ found. refl }
+sound None local = record { whole = λ found w does. ap (λ x. x.added) does; starved = λ found added is. is; silent = λ found added. refl }
 sound (Some (command.Image arch number file)) local =
-    record { whole = image_leaves arch number file; starved = λ found added is. inl is; silent = λ found. refl }
-sound (Some (command.Clear force)) local = record { whole = clear_leaves force; starved = λ found added is. inl is; silent = λ found. refl }
-sound (Some (command.Save options keep)) local = record { whole = save_leaves options keep; starved = λ found added is. inl is; silent = λ found. refl }
-sound (Some (command.Judge force)) local = record { whole = judge_adds_nothing force; starved = λ found added is. is; silent = λ found. refl }
-sound (Some (command.Dump mark source)) local = record { whole = dump_leaves mark source; starved = λ found added is. inl is; silent = λ found. refl }
+    record { whole = image_leaves arch number file; starved = λ found added is. inl is; silent = λ found added. refl }
+sound (Some (command.Clear force)) local = record { whole = clear_leaves force; starved = λ found added is. inl is; silent = λ found added. refl }
+sound (Some (command.Save options keep)) local = record { whole = save_leaves options keep; starved = λ found added is. inl is; silent = λ found added. refl }
+sound (Some (command.Judge force)) local = record { whole = judge_adds_nothing force; starved = λ found added is. is; silent = λ found added. refl }
+sound (Some (command.Dump mark source)) local = record { whole = dump_leaves mark source; starved = λ found added is. inl is; silent = λ found added. refl }
 sound (Some (command.Netdump source server)) local = absurd (no_bool local.0)
 sound (Some (command.Netdumpd dumps)) local = absurd (no_bool local.1)
 sound (Some (command.Read name va count)) local =
-    record { whole = λ found w does. ap (λ x. x.added) does.1; starved = λ found added is. is; silent = λ found. refl }
+    record { whole = λ found w does. ap (λ x. x.added) does.1; starved = λ found added is. is; silent = λ found added. refl }
+sound (Some (command.Drill source stop va count)) local = record {
+  whole = λ found w does. inl (w, does, refl);
+  starved = λ found added is. is;
+  silent = λ found added. inl refl;
+}
 
 -- a command whose work adds something ends with 0
-adds_with_zero : (command : Option Command) (found : Seen) (w : Work) → IsLocal (row_of command) → (row_of command).Does found w → (answer_status w.answer ≡ 0) ⊎ (w.added ≡ nothing)
-adds_with_zero None found w local does = inr (ap (λ x. x.added) does)
-adds_with_zero (Some (command.Image arch number file)) found w local does = inl (ap answer_status does.answer)
-adds_with_zero (Some (command.Judge force)) found w local does = inr (judge_adds_nothing force found w does)
-adds_with_zero (Some (command.Clear force)) found w local does = elim (refused_or_cleared force found w does) [
+adds_with_zero : (command : Option Command) (found : Seen) (w : Work) → IsOneStep command → IsLocal (row_of command) → (row_of command).Does found w → (answer_status w.answer ≡ 0) ⊎ (w.added ≡ nothing)
+adds_with_zero None found w one local does = inr (ap (λ x. x.added) does)
+adds_with_zero (Some (command.Image arch number file)) found w one local does = inl (ap answer_status does.answer)
+adds_with_zero (Some (command.Judge force)) found w one local does = inr (judge_adds_nothing force found w does)
+adds_with_zero (Some (command.Clear force)) found w one local does = elim (refused_or_cleared force found w does) [
   | inl refused ↦ inr (refused_adds_nothing refused.0 w refused.1)
   | inr cleared ↦ inl (ap (λ x. answer_status x.answer) cleared.1.is)
 ]
-adds_with_zero (Some (command.Save options keep)) found w local does = elim (refused_or_saved options keep found w does) [
+adds_with_zero (Some (command.Save options keep)) found w one local does = elim (refused_or_saved options keep found w does) [
   | inl refused ↦ inr (refused_adds_nothing refused.0 w refused.1)
   | inr saved ↦ inl (ap answer_status saved.1.answer)
 ]
-adds_with_zero (Some (command.Dump mark source)) found w local does = elim (refused_or_whole mark source found w does) [
+adds_with_zero (Some (command.Dump mark source)) found w one local does = elim (refused_or_whole mark source found w does) [
   | inl refused ↦ inr (refused_adds_nothing refused.0 w refused.1)
   | inr whole ↦ inl (ap answer_status whole.dumps.answer)
 ]
-adds_with_zero (Some (command.Netdump source server)) found w local does = absurd (no_bool local.0)
-adds_with_zero (Some (command.Netdumpd dumps)) found w local does = absurd (no_bool local.1)
-adds_with_zero (Some (command.Read name va count)) found w local does = inr (ap (λ x. x.added) does.1)
+adds_with_zero (Some (command.Netdump source server)) found w one local does = absurd (no_bool local.0)
+adds_with_zero (Some (command.Netdumpd dumps)) found w one local does = absurd (no_bool local.1)
+adds_with_zero (Some (command.Read name va count)) found w one local does = inr (ap (λ x. x.added) does.1)
+adds_with_zero (Some (command.Drill source stop va count)) found w one local does = absurd one
 
-starves_with_nothing : (command : Option Command) (found : Seen) (added : Added) → IsLocal (row_of command) → (row_of command).Starves found added → added ≡ nothing
-starves_with_nothing None found added local is = is
-starves_with_nothing (Some (command.Image arch number file)) found added local is = is
-starves_with_nothing (Some (command.Judge force)) found added local is = is
-starves_with_nothing (Some (command.Clear force)) found added local is = is
-starves_with_nothing (Some (command.Save options keep)) found added local is = is
-starves_with_nothing (Some (command.Dump mark source)) found added local is = is
-starves_with_nothing (Some (command.Netdump source server)) found added local is = is
-starves_with_nothing (Some (command.Netdumpd dumps)) found added local is = absurd (no_bool local.1)
-starves_with_nothing (Some (command.Read name va count)) found added local is = is
+starves_with_nothing : (command : Option Command) (found : Seen) (added : Added) → IsOneStep command → IsLocal (row_of command) → (row_of command).Starves found added → added ≡ nothing
+starves_with_nothing None found added one local is = is
+starves_with_nothing (Some (command.Image arch number file)) found added one local is = is
+starves_with_nothing (Some (command.Judge force)) found added one local is = is
+starves_with_nothing (Some (command.Clear force)) found added one local is = is
+starves_with_nothing (Some (command.Save options keep)) found added one local is = is
+starves_with_nothing (Some (command.Dump mark source)) found added one local is = is
+starves_with_nothing (Some (command.Netdump source server)) found added one local is = is
+starves_with_nothing (Some (command.Netdumpd dumps)) found added one local is = absurd (no_bool local.1)
+starves_with_nothing (Some (command.Read name va count)) found added one local is = is
+starves_with_nothing (Some (command.Drill source stop va count)) found added one local is = absurd one
 
 pub only_done_or_failed_adds : OnlyDoneOrFailedAdds
-only_done_or_failed_adds command old new status local call = by_ending call.ends
+only_done_or_failed_adds command old new status one local call = by_ending call.ends
   where
     by_ending : Ends (row_of command) old new status → (status ≡ 0) ⊎ ((status ≡ 74) ⊎ Grew old.reach new.reach nothing)
-    by_ending (inl done) = elim (adds_with_zero command old.reach.site done.work local done.does) [
+    by_ending (inl done) = elim (adds_with_zero command old.reach.site done.work one local done.does) [
       | inl zero ↦ inl (done.status_is ∙ zero)
       | inr none ↦ inr (inr (subst (Grew old.reach new.reach) none done.grew))
     ]
     by_ending (inr (inl done)) = inr (inl done.status_is)
     by_ending (inr (inr (inl done))) = inr (inl done.status_is)
     by_ending (inr (inr (inr done))) =
-        inr (inr (subst (Grew old.reach new.reach) (starves_with_nothing command old.reach.site done.added local done.starves) done.grew))
+        inr (inr (subst (Grew old.reach new.reach) (starves_with_nothing command old.reach.site done.added one local done.starves) done.grew))
 
 -- nothing is no entries
 none_alone : (added : Added) → added ≡ nothing → added ≡ only added.entries
 none_alone added is = subst (λ (a : Added). a ≡ only a.entries) (sym is) refl
+
+-- a drill's work adds entries alone
+alone_on_image : (stop va count : ℕ) (found : Seen) (given : Result MachineImage ImageFault) (w : Work)
+    → OnImage (λ m. Drills (drill_of stop va count m) found) given w → w.added ≡ only w.added.entries
+alone_on_image stop va count found (Ok m) w drills = elim drills.1 [
+  | inl short ↦ none_alone w.added (ap (λ x. x.added) short.refuses)
+  | inr more ↦ elim more [ inl none ↦ none.alone | inr done ↦ done.alone ]
+]
+alone_on_image stop va count found (Err image.NoFile) w is = none_alone w.added (ap (λ x. x.added) is)
+alone_on_image stop va count found (Err (image.NotImage place)) w is = none_alone w.added (ap (λ x. x.added) is)
+alone_on_image stop va count found (Err (image.BadImage bad)) w is = none_alone w.added (ap (λ x. x.added) is)
+alone_on_image stop va count found (Err image.SiteFault) w is = absurd is
+alone_on_image stop va count found (Err image.NoMemory) w is = absurd is
+
+drill_alone : (source : Source) (stop va count : ℕ) (found : Seen) (w : Work) → (drill_row source stop va count).Does found w → w.added ≡ only w.added.entries
+drill_alone source stop va count found w does =
+    either (is_good found.size found.block) (DrillsSource source stop va count found w) _ _ does (λ good d. alone_on_image stop va count found d.0 w d.2)
+    (λ bad is. none_alone w.added (ap (λ x. x.added) is))
 
 pub adds_entries_alone : AddsEntriesAlone
 adds_entries_alone None found added local left = none_alone added left
@@ -174,3 +206,7 @@ adds_entries_alone (Some (command.Dump mark source)) found added local left = el
 adds_entries_alone (Some (command.Netdump source server)) found added local left = absurd (no_bool local.0)
 adds_entries_alone (Some (command.Netdumpd dumps)) found added local left = absurd (no_bool local.1)
 adds_entries_alone (Some (command.Read name va count)) found added local left = none_alone added left
+adds_entries_alone (Some (command.Drill source stop va count)) found added local left = elim left [
+  | inl done ↦ subst (λ (a : Added). a ≡ only a.entries) done.2 (drill_alone source stop va count found done.0 done.1)
+  | inr early ↦ elim early.1 [ inl none ↦ none_alone added none.0 | inr begun ↦ begun.2.alone ]
+]

@@ -10,7 +10,7 @@ use Rattle.fd_cli.specs.Received.{report_of}
 use Rattle.fd_cli.specs.Refusal.{line_of, spent_status_of, status_of}
 use Rattle.fd_cli.specs.Row.{Added, FaultRose, Grew, Kept, Outside, Row, Work, outside}
 use Rattle.fd_cli.specs.declared.answer.Answer.{Answer}
-use Rattle.fd_cli.specs.declared.answer.Answer.TheVariants.{Made, Dump, Dumped, Cleared, Saved, Sent, Received, Read, Refused}
+use Rattle.fd_cli.specs.declared.answer.Answer.TheVariants.{Made, Dump, Dumped, Cleared, Saved, Sent, Received, Read, Printed, Refused}
 
 -- a line, with its newline
 abbrev pub line : List ℕ → List ℕ
@@ -26,6 +26,7 @@ answer_text (Saved number len) = line (codes "saved " ++ (vmcore_name number ++ 
 answer_text (Sent len last) = line (codes "sent " ++ (decimal len ++ (codes " " ++ decimal last)))
 answer_text (Received sessions spent) = report_of sessions spent
 answer_text (Read address bytes) = read_text address bytes
+answer_text (Printed status text) = text
 answer_text (Refused refusal) = line (line_of refusal)
 
 abbrev pub answer_status : Answer → ℕ
@@ -37,6 +38,7 @@ answer_status (Saved number len) = 0
 answer_status (Sent len last) = 0
 answer_status (Received sessions spent) = spent_status_of spent
 answer_status (Read address bytes) = 0
+answer_status (Printed status text) = status
 answer_status (Refused refusal) = status_of refusal
 
 -- a call ended with an answer: its whole text, and its status
@@ -63,7 +65,7 @@ pub record Failed (row : Row) (old new : Outside) (status : ℕ) : Type 0 where
   pub leaves : row.Leaves old.reach.site added
   pub grew : Grew old.reach new.reach added
   pub early : List ℕ
-  pub may_say : row.Says old.reach.site early
+  pub may_say : row.Says old.reach.site added early
   pub printed : new.sink.told ≡ grown old.sink.told early
   pub status_is : status ≡ 74
   pub rose : FaultRose row.blames old.reach new.reach
@@ -74,7 +76,7 @@ pub record Starved (row : Row) (old new : Outside) (status : ℕ) : Type 0 where
   pub starves : row.Starves old.reach.site added
   pub grew : Grew old.reach new.reach added
   pub early : List ℕ
-  pub may_say : row.Says old.reach.site early
+  pub may_say : row.Says old.reach.site added early
   pub printed : new.sink.told ≡ grown old.sink.told early
   pub status_is : status ≡ 71
 
@@ -104,4 +106,5 @@ IsPrintable (Saved number len) = Unit {0}
 IsPrintable (Sent len last) = Unit {0}
 IsPrintable (Received sessions spent) = length sessions ≤ 16
 IsPrintable (Read address bytes) = address + length bytes ≤ 2 ^ 64
+IsPrintable (Printed status text) = Unit {0}
 IsPrintable (Refused refusal) = Unit {0}

@@ -4,7 +4,7 @@ use Rattle.fd_site.specs.Contents.{Contents, Told, part_of, with_entries}
 use Rattle.fd_site.specs.Cut.{Disk, EachCutOf, IsCut}
 use Rattle.fd_site.specs.Seen.{Seen}
 use Rattle.fd_site.specs.Trace.{LinkEvent}
-use Rattle.fd_image.specs.Image.{MachineImage}
+use Rattle.fd_image.specs.Image.{IsValid, MachineImage}
 use Rattle.fd_kdh.specs.Header.{dump_header}
 use Rattle.fd_dump.specs.Header.{header_of}
 use Rattle.fd_dump.specs.KernelRead.{kernel_read}
@@ -17,6 +17,7 @@ use Rattle.fd_info.specs.Saved.{IsSaved}
 use Rattle.fd_save.specs.Saving.{device_name, parity_of}
 use Rattle.fd_save.specs.declared.saved.Options.{Options}
 use Rattle.fd_judge.specs.declared.why.Why.TheVariants.{Cleared}
+use Rattle.fd_kvm.specs.Answer.{answer_of}
 use Rattle.fd_cli.specs.Crash.{IsCutOfDump, IsCutOfMarkedDump, IsCutOfSavecore, LeavesSavedFiles}
 use Rattle.fd_cli.specs.Ending.{Call, answer_status}
 use Rattle.fd_cli.specs.Row.{Added, Grew, Outside, Row, Work, nothing, only}
@@ -31,6 +32,7 @@ use Rattle.fd_cli.specs.Rows.Read.{bytes_answer, read_row}
 use Rattle.fd_cli.specs.Rows.Save.{save_row}
 use Rattle.fd_cli.specs.declared.answer.Answer.TheVariants.{Dump, Saved}
 use Rattle.fd_words.specs.declared.command.Command.{Command}
+use Rattle.fd_words.specs.declared.command.Command.TheVariants as command
 use Rattle.fd_cli.specs.declared.refusal.Refusal.{Refusal}
 use Rattle.fd_cli.specs.declared.refusal.Refusal.TheVariants.{Judged}
 use Rattle.fd_words.specs.declared.source.Source.{Source}
@@ -39,11 +41,16 @@ use Rattle.fd_words.specs.declared.source.Source.{Source}
 pub record IsSound (row : Row) : Type 0 where
   pub whole : (found : Seen) (w : Work) → row.Does found w → row.Leaves found w.added
   pub starved : (found : Seen) (added : Added) → row.Starves found added → row.Leaves found added
-  pub silent : (found : Seen) → row.Says found []
+  pub silent : (found : Seen) (added : Added) → row.Says found added []
 
 -- the row of commands that use no network
 abbrev pub IsLocal : Row → Type 0
 IsLocal row = (row.blames.link ≡ false) × (row.blames.ports ≡ false)
+
+-- a command whose work is one step, of which it then tells: each but a drill
+abbrev pub IsOneStep : Option Command → Type 0
+IsOneStep (Some (command.Drill source stop va count)) = ⊥
+IsOneStep other = Unit {0}
 
 -- what a row leaves over what was found, and the site then tells
 pub record Left (row : Row) (found : Seen) (new : Option Contents) : Type 0 where
@@ -56,13 +63,13 @@ pub record Refines (found : Seen) (row other : Row) : Type 0 where
   pub does : (w : Work) → row.Does found w → other.Does found w
   pub leaves : (added : Added) → row.Leaves found added → other.Leaves found added
   pub starves : (added : Added) → row.Starves found added → other.Starves found added
-  pub says : (text : List ℕ) → row.Says found text → other.Says found text
+  pub says : (added : Added) (text : List ℕ) → row.Says found added text → other.Says found added text
   pub blames : row.blames ≡ other.blames
 
--- a call that uses no network, and ended with another status than 0 or 74, added nothing
+-- a call of one step that uses no network, and ended with another status than 0 or 74, added nothing
 abbrev pub OnlyDoneOrFailedAdds : Type 0
 OnlyDoneOrFailedAdds =
-    (command : Option Command) (old new : Outside) (status : ℕ) → IsLocal (row_of command) → Call (row_of command) old new status
+    (command : Option Command) (old new : Outside) (status : ℕ) → IsOneStep command → IsLocal (row_of command) → Call (row_of command) old new status
     → (status ≡ 0) ⊎ ((status ≡ 74) ⊎ Grew old.reach new.reach nothing)
 
 -- what a call finds that comes next
@@ -201,3 +208,19 @@ ClearedIsRefused =
     → IsSized found → (save_row options false).Does found save → answer_status save.answer ≡ 0
     → again.force ≡ false → (save_row again keep).Does (after found save) next
     → Told found.told (λ c. Refuses (Judged Cleared) next)
+
+-- every kernel read of an image's minidump gives the image's bytes, or the fault that the image defines
+abbrev pub EachReadIsTheImages : Type 0
+EachReadIsTheImages = (m : MachineImage) (va count : ℕ) → IsValid m → answer_of (minidump_of m) va count ≡ Ok (kernel_read m va count)
+
+-- the headline: what becomes of a dump that is cut, of one that is sent, and of reads
+pub record IsHeadline : Type 0 where
+  pub cut : EachCutDumpIsSavedWhole
+  pub sent : EachNetdumpIsDelivered
+  pub read : EachReadIsTheImages
+
+-- the second headline: the same of a dump that marks first, over any partition
+pub record IsMarkedHeadline : Type 0 where
+  pub cut : EachCutMarkedDumpIsSavedWhole
+  pub sent : EachNetdumpIsDelivered
+  pub read : EachReadIsTheImages

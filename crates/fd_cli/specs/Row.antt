@@ -79,11 +79,11 @@ pub record Kept (blamed : Blamed) (old new : Reach) : Type 0 where
   pub quiet_ports : OnFalse blamed.ports (new.ports.faults ≡ old.ports.faults)
 
 -- What a command may do over the site that it finds. `Does` is its whole outcome, refusals too: the answer and what was
--- added, by one witness. Where it ends without an answer, `Says` is the text that it had printed before, and `Leaves`
--- what it had added: after a fault of what the row `blames`, or, for want of memory, `Starves`.
+-- added, by one witness. Where it ends without an answer, `Leaves` is what it had added: after a fault of
+-- what the row `blames`, or, for want of memory, `Starves`; and `Says` is the text that it had printed by then.
 pub record Row : Type 1 where
   pub Does : Seen → Work → Type 0
   pub Leaves : Seen → Added → Type 0
   pub Starves : Seen → Added → Type 0
-  pub Says : Seen → List ℕ → Type 0
+  pub Says : Seen → Added → List ℕ → Type 0
   pub blames : Blamed

@@ -3,6 +3,7 @@ use Rattle.std.specs.Prelude.{Option, Some, None}
 use Rattle.fd_cli.specs.Row.{Row}
 use Rattle.fd_cli.specs.Rows.Clear.{clear_row}
 use Rattle.fd_cli.specs.Rows.Common.{AddsNothing, Refuses, SaysNothing, no_fault}
+use Rattle.fd_cli.specs.Rows.Drill.{drill_row}
 use Rattle.fd_cli.specs.Rows.Dump.{dump_row}
 use Rattle.fd_cli.specs.Rows.Image.{image_row}
 use Rattle.fd_cli.specs.Rows.Judge.{judge_row}
@@ -15,6 +16,7 @@ use Rattle.fd_words.specs.declared.command.Command.TheVariants as command
 use Rattle.fd_cli.specs.declared.refusal.Refusal.TheVariants.{NotCommand}
 pub mod Clear
 pub mod Common
+pub mod Drill
 pub mod Dump
 pub mod Image
 pub mod ImageRead
@@ -44,3 +46,4 @@ row_of (Some (command.Dump mark source)) = dump_row mark source
 row_of (Some (command.Netdump source server)) = netdump_row source server
 row_of (Some (command.Netdumpd dumps)) = netdumpd_row dumps
 row_of (Some (command.Read name va count)) = read_row name va count
+row_of (Some (command.Drill source stop va count)) = drill_row source stop va count

@@ -27,8 +27,8 @@ use fd_site::{Pieces, Site};
 use fd_words::Source;
 use std::alloc::{AllocError, Global};
 
-// The reply to something that is refused.
-fn refuse(alloc: Global, refusal: Refusal) -> Result<Reply, AllocError>
+/// The reply to something that is refused.
+pub(crate) fn refuse(alloc: Global, refusal: Refusal) -> Result<Reply, AllocError>
     ensures { IfOk result (IsReplyOf (Refused refusal)) }
 {
     Reply::new(alloc, &Answer::Refused(refusal))

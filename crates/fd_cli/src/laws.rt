@@ -1,7 +1,7 @@
 //! What follows from the rows of the commands alone.
 
 ghost use Rattle.std.specs.Prelude.{ℕ, Option};
-ghost use Rattle.fd_cli.specs.Laws.{AddsEntriesAlone, ClearedIsRefused, EachCutDumpIsSavedWhole, EachCutMarkedDumpIsSavedWhole, EachDumpIsSafe, EachMarkedDumpIsSafe, EachNetdumpIsDelivered, EachNetdumpIsReceived, EachSavecoreIsSafe, EachSavedFileIsLeft, HasTurnsAlways, IsLocal, IsRunAlways, IsSound, JudgeFindsDump, OnlyDoneOrFailedAdds, ReadsWhatWasDumped};
+ghost use Rattle.fd_cli.specs.Laws.{AddsEntriesAlone, ClearedIsRefused, EachCutDumpIsSavedWhole, EachCutMarkedDumpIsSavedWhole, EachDumpIsSafe, EachMarkedDumpIsSafe, EachNetdumpIsDelivered, EachNetdumpIsReceived, EachSavecoreIsSafe, EachSavedFileIsLeft, HasTurnsAlways, IsHeadline, IsLocal, IsMarkedHeadline, IsRunAlways, IsSound, JudgeFindsDump, OnlyDoneOrFailedAdds, ReadsWhatWasDumped};
 ghost use Rattle.fd_cli.specs.Rows.{row_of};
 ghost use Rattle.fd_words.specs.declared.command.Command.{Command};
 ghost use Rattle.fd_words.specs.declared.source.Source.{Source};
@@ -107,4 +107,24 @@ pub fn each_netdump_is_received()
     ensures { EachNetdumpIsReceived }
 {
     a_done_client_was_served();
+}
+
+/// The headline: a dump that a machine cut is refused or saved as exactly the image's minidump; a `netdump` ends with 0 only
+/// where a server keeps that minidump; and every kernel read of it gives the image's bytes, or the fault that the image
+/// defines.
+pub fn the_headline_holds()
+    ensures { IsHeadline }
+{
+    each_cut_dump_is_saved_whole();
+    each_netdump_is_delivered();
+    each_read_of_a_minidump_is_the_images();
+}
+
+/// The second headline: the same of `dump -i` over any good partition, which a cut may also leave as it was.
+pub fn the_marked_headline_holds()
+    ensures { IsMarkedHeadline }
+{
+    each_cut_marked_dump_is_saved_whole();
+    each_netdump_is_delivered();
+    each_read_of_a_minidump_is_the_images();
 }

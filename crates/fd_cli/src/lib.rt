@@ -4,6 +4,7 @@
 #![tactic(auto)]
 
 mod answer;
+mod drill_image;
 mod dump_image;
 mod invocation;
 mod judge_partition;

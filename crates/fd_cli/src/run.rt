@@ -18,6 +18,7 @@ ghost use Rattle.fd_words.specs.declared.source.Source.{Source};
 ghost use Rattle.fd_save.specs.declared.saved.Options.{Options};
 
 use crate::answer::Answer;
+use crate::drill_image::drill_image;
 use crate::dump_image::dump_image;
 use crate::judge_partition::judge_partition;
 use crate::laws::{each_netdump_is_delivered, each_savecore_is_safe, each_saved_file_is_left};
@@ -99,6 +100,14 @@ fn carry_out<S: Site, L: Link, P: Ports, O: Sink>(
                 count,
             },
         ) => print_memory(alloc, site, &file, address, count, out),
+        Some(
+            Command::Drill {
+                image,
+                stop,
+                address,
+                count,
+            },
+        ) => drill_image(alloc, site, &image, stop, address, count, out),
     }
 }
 

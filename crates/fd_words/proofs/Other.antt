@@ -9,12 +9,13 @@ pub none_of_no : (name : List ℕ) (values : List (Bor (List ℕ))) → length v
 none_of_no name [] few = refl
 none_of_no name (a ∷ rest) few = absurd (omega arith)
 
-pub none_of_many : (name : List ℕ) (values : List (Bor (List ℕ))) → 3 < length values → None ≡ command_of_values name (texts values)
-none_of_many name (a ∷ b ∷ c ∷ d ∷ rest) many = refl
+pub none_of_many : (name : List ℕ) (values : List (Bor (List ℕ))) → 4 < length values → None ≡ command_of_values name (texts values)
+none_of_many name (a ∷ b ∷ c ∷ d ∷ e ∷ rest) many = refl
 none_of_many name [] many = absurd (omega arith)
 none_of_many name (a ∷ []) many = absurd (omega arith)
 none_of_many name (a ∷ b ∷ []) many = absurd (omega arith)
 none_of_many name (a ∷ b ∷ c ∷ []) many = absurd (omega arith)
+none_of_many name (a ∷ b ∷ c ∷ d ∷ []) many = absurd (omega arith)
 
 pub no_dump_of_no : (mark : Bool) (values : List (Bor (List ℕ))) → length values < 1 → None ≡ dump_of mark (texts values)
 no_dump_of_no mark [] few = refl

@@ -56,6 +56,14 @@ pub enum Command {
         address: u64,
         count: u32,
     },
+    /// `drill IMAGE STOP ADDRESS LENGTH`: write the first `stop` sectors of this image's dump, save what then stands there, and
+    /// print `count` bytes of the saved file from a kernel address on.
+    Drill {
+        image: Source,
+        stop: u64,
+        address: u64,
+        count: u32,
+    },
 }
 
 // The command of this name with these values and options, of which `most` is the value of `-m`.

@@ -87,6 +87,11 @@ read k -- 1 -2|none
 read - 1 2|none
 read k 1|none
 read k 1 2 3|none
+drill @arm64:16376 110226 0xffff000000000000 16|drill made 1 16376 110226 18446462598732840960 16
+drill a.img 73 0 1048576|drill file a.img 73 0 1048576
+drill a.img 73 0 1048577|none
+drill a.img -1 0 1|none
+drill a.img 73 0|none
 -C savecore|none
 Savecore|none
 erase|none";
@@ -141,6 +146,19 @@ fn tell(alloc: Global, command: &Option<Command>) -> Result<String, Fail> {
                 count,
             },
         ) => format!(in alloc; "read {} {address} {count}", file.as_str())?,
+        Some(
+            Command::Drill {
+                image,
+                stop,
+                address,
+                count,
+            },
+        ) => {
+            format!(in alloc;
+                "drill {} {stop} {address} {count}",
+                tell_source(alloc, image)?
+            )?
+        }
     };
     Ok(text)
 }

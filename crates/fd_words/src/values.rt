@@ -4,7 +4,7 @@ ghost use Rattle.std.specs.Prelude.{◌≡◌, IfOk, map};
 ghost use Rattle.std.specs.Option.{option_map};
 ghost use Rattle.fd_bytes.specs.Number.{number_of};
 ghost use Rattle.fd_words.specs.Address.{address_of};
-ghost use Rattle.fd_words.specs.Command.{command_of_one, command_of_three, command_of_two, command_of_values, dump_of, HasGoodNames, image_of, netdump_of, netdumpd_of, read_of};
+ghost use Rattle.fd_words.specs.Command.{command_of_four, command_of_one, command_of_three, command_of_two, command_of_values, drill_of, dump_of, HasGoodNames, image_of, netdump_of, netdumpd_of, read_of};
 ghost use Rattle.fd_words.specs.Source.{arch_of, source_of};
 
 use crate::address::read_address;
@@ -15,7 +15,7 @@ use fd_bytes::read_number;
 use fd_site::good_name;
 use std::alloc::{AllocError, Global};
 
-/// The most bytes that one `read` prints.
+/// The most bytes that one `read` or `drill` prints.
 const MOST_READ: u64 = 1_048_576;
 
 /// The most dumps that one server takes.
@@ -129,6 +129,40 @@ fn read_command_of(
     }))
 }
 
+// `drill` of this image.
+fn drill_command(
+    alloc: Global,
+    image: &str,
+    stop: &str,
+    address: &str,
+    count: &str,
+) -> Result<Option<Command>, AllocError>
+    ensures value { IfOk result (λ command. command ≡ drill_of (number_of stop.now) (number_of address.now) (number_of count.now) (source_of image.now)) }
+    ensures names { IfOk result HasGoodNames }
+{
+    let stop = match read_number(stop.as_bytes()) {
+        Ok(stop) => stop,
+        Err(_) => return Ok(None),
+    };
+    let address = match read_number(address.as_bytes()) {
+        Ok(address) => address,
+        Err(_) => return Ok(None),
+    };
+    let count = match read_number(count.as_bytes()) {
+        Ok(count) => count,
+        Err(_) => return Ok(None),
+    };
+    match read_source(alloc, image)? {
+        Some(image) if count <= MOST_READ => Ok(Some(Command::Drill {
+            image,
+            stop,
+            address,
+            count: count as u32,
+        })),
+        _ => Ok(None),
+    }
+}
+
 // A command of one value.
 fn command_of_one(alloc: Global, name: &str, value: &str) -> Result<Option<Command>, AllocError>
     ensures value { IfOk result (λ command. command ≡ command_of_one name.now value.now) }
@@ -176,6 +210,24 @@ fn command_of_three(
     Ok(None)
 }
 
+// A command of four values.
+fn command_of_four(
+    alloc: Global,
+    name: &str,
+    first: &str,
+    second: &str,
+    third: &str,
+    fourth: &str,
+) -> Result<Option<Command>, AllocError>
+    ensures value { IfOk result (λ command. command ≡ command_of_four name.now first.now second.now third.now fourth.now) }
+    ensures names { IfOk result HasGoodNames }
+{
+    if name == "drill" {
+        return drill_command(alloc, first, second, third, fourth);
+    }
+    Ok(None)
+}
+
 /// The command of this name with these values and no option, if there is one.
 pub(crate) fn command_of_values(
     alloc: Global,
@@ -189,6 +241,9 @@ pub(crate) fn command_of_values(
         [value] => command_of_one(alloc, name, *value),
         [first, second] => command_of_two(alloc, name, *first, *second),
         [first, second, third] => command_of_three(alloc, name, *first, *second, *third),
+        [first, second, third, fourth] => {
+            command_of_four(alloc, name, *first, *second, *third, *fourth)
+        }
         _ => Ok(None),
     }
 }

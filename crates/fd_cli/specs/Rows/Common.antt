@@ -25,8 +25,8 @@ OnGood found P w =
 abbrev pub AddsNothing : Seen → Added → Type 0
 AddsNothing found added = added ≡ nothing
 
-abbrev pub SaysNothing : Seen → List ℕ → Type 0
-SaysNothing found text = text ≡ []
+abbrev pub SaysNothing : Seen → Added → List ℕ → Type 0
+SaysNothing found added text = text ≡ []
 
 -- no fault ends it
 abbrev pub no_fault : Blamed

@@ -73,3 +73,8 @@ pub returns-in-Some-Read : goal.returns-in-Some-Read
 returns-in-Some-Read g c =
     let i = c.in-Some-Read in
     called_by _ _ _ _ _ (sym c.in-Ok.ensures.value ∙ i.is ∙ ap (λ (x : Command). Some x) i.field-0-is) (c.print_memory.ensures _ _)
+
+pub returns-in-Some-Drill : goal.returns-in-Some-Drill
+returns-in-Some-Drill g c =
+    let i = c.in-Some-Drill in
+    called_by _ _ _ _ _ (sym c.in-Ok.ensures.value ∙ i.is ∙ ap (λ (x : Command). Some x) i.field-0-is) (c.drill_image.ensures _ _)
