@@ -1,8 +1,9 @@
 #!/usr/bin/env bash
 # `dump` of riscv images of 64 MiB, 256 MiB and 1 GiB, all of whose pages are dumped, and of the image of 64 MiB that the
 # command `image` makes, of which two thirds are. Beside it in turn: a plain C program of the same shape, which reads the
-# whole image into fresh memory and writes as many bytes of it as the dump has, in pieces of 1 MiB; and dd, which copies them
-# in pieces of 4096. Processor time, peak memory and ratios. The first argument is how many runs are timed (11 if it is left
+# whole image into fresh memory and writes as many bytes of it as the dump has, in pieces of 1 MiB; the same with a sync of
+# the partition at the end, as `dump` syncs it around the headers; and dd, which copies the bytes in pieces of 4096. Processor
+# time, peak memory and ratios. The first argument is how many runs are timed (11 if it is left
 # out), the others are the sizes in MiB. It needs cc, and for 1 GiB some 4 GiB of disk.
 set -eu
 top=$(cd "$(dirname "$0")/.." && pwd)
@@ -20,11 +21,11 @@ cat >"$folder/plain.c" <<'C'
 #include <sys/stat.h>
 #include <unistd.h>
 
-/* IMAGE PARTITION LENGTH: writes so many bytes of the image's end at the partition's beginning. */
+/* IMAGE PARTITION LENGTH [SYNC]: writes so many bytes of the image's end at the partition's beginning. */
 int main(int count, char **args) {
     struct stat stat;
     int image = open(args[1], O_RDONLY), partition = open(args[2], O_WRONLY);
-    if (count != 4 || image < 0 || partition < 0 || fstat(image, &stat)) return 1;
+    if (count < 4 || count > 5 || image < 0 || partition < 0 || fstat(image, &stat)) return 1;
     size_t length = strtoull(args[3], NULL, 10), size = stat.st_size, done = 0;
     char *bytes = malloc(size);
     if (!bytes || length > size) return 1;
@@ -39,6 +40,7 @@ int main(int count, char **args) {
         if (now <= 0) return 1;
         done += now;
     }
+    return count == 5 && fsync(partition) != 0;
 }
 C
 cc -O2 -Wall -Werror -o "$folder/plain" "$folder/plain.c"
@@ -56,6 +58,7 @@ measure() {
     echo "$1: an image of $size bytes, $words"
     alternate -- dump "$program" "$folder" 512 dump a.img \
         -- 'plain C' "$folder/plain" "$folder/a.img" "$folder/copy" "$length" \
+        -- 'C with a sync' "$folder/plain" "$folder/a.img" "$folder/copy" "$length" sync \
         -- dd dd "if=$folder/a.img" "of=$folder/copy" bs=4096 "count=$((length / 4096))" conv=notrunc status=none
 }
 

@@ -8,8 +8,6 @@ mod bitmap;
 pub mod laws;
 mod rank;
 mod steps;
-#[cfg(test)]
-mod tests;
 mod words;
 
 pub use avail::{Avail, AvailFault};

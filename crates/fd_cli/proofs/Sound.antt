@@ -21,7 +21,7 @@ use Rattle.fd_imgfile.specs.declared.fault.ImageFault.{ImageFault}
 use Rattle.fd_imgfile.specs.declared.fault.ImageFault.TheVariants as image
 use Rattle.fd_part.specs.Partition.{is_good}
 use Rattle.fd_cli.proofs.Good.{either}
-use Rattle.fd_cli.specs.Rows.Dump.{HasBegun, IsBegunOver, IsDumpOver, MayHaveBegun, OnImage, dump_row}
+use Rattle.fd_cli.specs.Rows.Dump.{OnImage, HasBegun, IsBegunOver, IsDumpOver, MayHaveBegun, dump_row}
 use Rattle.fd_cli.specs.Rows.Clear.{MayHaveBegunToClear, clear_row}
 use Rattle.fd_cli.specs.Rows.Image.{image_row}
 use Rattle.fd_cli.specs.Rows.Save.{MayHaveBegunToSave, save_row}

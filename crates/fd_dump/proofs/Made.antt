@@ -1,5 +1,6 @@
 -- Lists that are made of numbers one after another, and their pages.
-use Rattle.std.proofs.Common.{◌≡◌, ◌∙◌, ℕ, zero, suc, ◌+◌, ◌-◌, ◌*◌, ◌≤◌, List, [], ◌∷◌, ◌++◌, length, get_or, replicate, slice_range, refl, ap, sym, arith, length-append, append-nil, mul-suc, zero-add}
+use Rattle.std.proofs.Common.{◌≡◌, ◌∙◌, ℕ, zero, suc, ◌+◌, ◌-◌, ◌*◌, ◌≤◌, List, [], ◌∷◌, ◌++◌, length, get_or, replicate, slice_range, refl}
+use Rattle.std.proofs.Common.{ap, sym, arith, length-append, append-nil, mul-suc, zero-add}
 use Rattle.std.specs.List.{flat_map, range_with_len}
 use Rattle.std.proofs.lemmas.List.{replicate-append-replicate}
 use Rattle.std.proofs.lemmas.List.Concat.{flat_map-append}

@@ -9,8 +9,6 @@ mod pages;
 mod plan;
 mod sections;
 mod stream;
-#[cfg(test)]
-mod tests;
 
 pub use plan::Plan;
 pub use stream::Stream;

@@ -16,8 +16,6 @@ mod mem_sink;
 mod mem_site;
 mod ports_event;
 mod stop_site;
-#[cfg(test)]
-mod tests;
 
 pub use link_event::LinkEvent;
 pub use mem_link::{Answer, MemLink};

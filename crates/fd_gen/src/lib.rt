@@ -10,8 +10,6 @@ mod layout;
 mod ranges;
 mod segment;
 mod tables;
-#[cfg(test)]
-mod tests;
 mod texts;
 
 pub use image::make;

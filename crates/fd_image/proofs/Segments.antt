@@ -52,6 +52,16 @@ module _ (segs : List Seg) (kept : segment_out_of_order segs ≡ None) (d : Seg)
       let ends = apart_by (k - j - 1) j (omega arith) in
       rw place at ends
 
+-- a segment that has an address is the one that is found, since those before it end before it begins
+pub only_segment : (pa : ℕ) (segs : List Seg) (i : ℕ) (d : Seg) → segment_out_of_order segs ≡ None → i < length segs
+    → has_address pa (get_or segs i d) ≡ true → find (has_address pa) segs ≡ Some (get_or segs i d)
+only_segment pa segs i d kept within has =
+    find-at (has_address pa) segs i d within
+    (λ k before.
+    let ends = apart segs kept d k i before within in
+    grind (arith, nat_tests, has, ends))
+    has
+
 -- the beginnings rise
 starts_rise : (segs : List Seg) → segment_out_of_order segs ≡ None → IsNonDecreasingBy (λ seg. seg.start) segs
 starts_rise segs kept i j d at_most within =

@@ -1,5 +1,5 @@
 //! The valid image, with its words and pages.
-ghost use Rattle.std.specs.Prelude.{◌≡◌, ◌⊎◌, ◌%◌, Some, None, IsTrue, IfSome, IfOk, IfErr, find, option_copied};
+ghost use Rattle.std.specs.Prelude.{◌≡◌, ◌≢◌, ◌⊎◌, ◌<◌, ◌≤◌, ◌+◌, ◌*◌, ◌%◌, ℕ, Some, None, IsTrue, IfSome, IfOk, IfErr, find, option_copied};
 ghost use Rattle.fd_image.specs.Image.{broken_rule, levels_of, segment_out_of_order, is_whole_pages, IsTyped, IsValid};
 ghost use Rattle.fd_image.specs.Physical.{has_address, page_in, page_of, pages_from, pages_in, segment_of, word_in};
 
@@ -123,7 +123,7 @@ impl Image {
     pub fn page(&self, pa: u64) -> Option<&[u8]>
         ensures { option_copied result ≡ page_of self.now pa }
     {
-        match self.segment_of(pa) {
+        match self.segment_of(pa, &mut 0) {
             Some(seg) => Some(page_in(seg, pa)),
             None => None,
         }
@@ -135,18 +135,19 @@ impl Image {
     pub fn pages(&self, pa: u64, most: u64) -> &[u8]
         ensures { result.now ≡ pages_from self.now pa most }
     {
-        match self.segment_of(pa) {
+        match self.segment_of(pa, &mut 0) {
             Some(seg) => pages_in(seg, pa, most),
             None => &[],
         }
     }
 
-    fn segment_of(&self, pa: u64) -> Option<&Seg>
+    fn segment_of(&self, pa: u64, near: &mut usize) -> Option<&Seg>
         ensures value { option_copied result ≡ segment_of self.now pa }
         ensures within { IfSome result (λ seg. IsTrue (has_address pa seg.now)) }
         ensures whole { IfSome result (λ seg. IsTrue (is_whole_pages seg.now)) }
+        ensures valid { IsValid self.now }
     {
-        find_segment(self.segs(), pa)
+        find_segment(self.segs(), pa, near)
     }
 }
 
@@ -155,20 +156,62 @@ impl Memory for Image {
 
     ghost word_at = { word_of };
 
+    fn alike(&self, pa: u64, most: u64, near: &mut usize) -> u64 {
+        match self.segment_of(pa, near) {
+            Some(seg) => words_alike(seg, pa, most),
+            None => most,
+        }
+    }
+
     #[tactic(auto, unfolding(crate::specs::Physical::word_of))]
-    fn word(&self, pa: u64) -> Option<u64> {
+    fn word_near(&self, pa: u64, near: &mut usize) -> Option<u64> {
         if pa % 8 != 0 {
             return None;
         }
-        match self.segment_of(pa) {
+        match self.segment_of(pa, near) {
             Some(seg) => Some(word_in(seg, pa)),
             None => None,
         }
     }
 }
 
-// The segment in which an address lies, by binary search.
-fn find_segment(segs: &[Seg], pa: u64) -> Option<&Seg>
+// How many of the `most` words of a page from an address on, in a segment of whole pages, are like the first of them.
+fn words_alike(seg: &Seg, pa: u64, most: u64) -> u64
+    requires aligned { pa % 8 ≡ 0 }
+    requires some { 0 < most }
+    requires page { pa % 4096 + 8 * most ≤ 4096 }
+    requires within { IsTrue (has_address pa seg.now) }
+    requires whole { IsTrue (is_whole_pages seg.now) }
+    ensures some { 0 < result }
+    ensures most { result ≤ most }
+    ensures alike { (k : ℕ) → k < result → word_in seg.now (pa + 8 * k) ≡ word_in seg.now pa }
+    ensures other { result < most → word_in seg.now (pa + 8 * result) ≢ word_in seg.now pa }
+{
+    let first = word_in(seg, pa);
+    for count in 1..most {
+        if word_in(seg, pa + 8 * count) != first {
+            return count;
+        }
+    }
+    most
+}
+
+// The segment in which an address lies: the one of the index `near`, or else by binary search, which sets `near`.
+#[inline(always)]
+fn find_segment<'a>(segs: &'a [Seg], pa: u64, near: &mut usize) -> Option<&'a Seg>
+    requires { segment_out_of_order segs.now ≡ None }
+    ensures { option_copied result ≡ find (has_address pa) segs.now }
+{
+    match segs.get(*near) {
+        Some(seg) if has_address(seg, pa) => Some(seg),
+        _ => search_segment(segs, pa, near),
+    }
+}
+
+// The same by binary search. `near` becomes the index of the last segment that begins at or before the address.
+#[cold]
+#[inline(never)]
+fn search_segment<'a>(segs: &'a [Seg], pa: u64, near: &mut usize) -> Option<&'a Seg>
     requires { segment_out_of_order segs.now ≡ None }
     ensures { option_copied result ≡ find (has_address pa) segs.now }
 {
@@ -176,6 +219,7 @@ fn find_segment(segs: &[Seg], pa: u64) -> Option<&Seg>
     if count == 0 {
         return None;
     }
+    *near = count - 1;
     let seg = &segs[count - 1];
     if has_address(seg, pa) {
         Some(seg)

@@ -8,8 +8,6 @@ mod memory;
 mod parts;
 mod rules;
 mod sequence;
-#[cfg(test)]
-mod tests;
 mod typed;
 
 pub use image::Image;

@@ -7,8 +7,6 @@ mod front;
 pub mod laws;
 mod read;
 mod tables;
-#[cfg(test)]
-mod tests;
 mod write;
 
 pub use fault::ImageFault;

@@ -12,8 +12,6 @@ mod lines;
 mod name;
 mod printing;
 mod reading;
-#[cfg(test)]
-mod tests;
 
 pub use bounds::{print_bounds, read_bounds};
 pub use info::Info;

@@ -4,10 +4,6 @@
 #![tactic(auto)]
 
 pub mod laws;
-#[cfg(test)]
-mod marked_tests;
-#[cfg(test)]
-mod tests;
 mod verdict;
 mod why;
 

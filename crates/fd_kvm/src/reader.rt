@@ -1,5 +1,5 @@
 //! A reader of one vmcore.
-ghost use Rattle.std.specs.Prelude.{◌≡◌, ℕ, ◌+◌, ◌^◌, ◌<◌, ◌≤◌, ◌↔◌, List, Some, Err, IfOk, IsErrOf, IsTrue, length};
+ghost use Rattle.std.specs.Prelude.{◌≡◌, ℕ, ◌+◌, ◌^◌, ◌<◌, ◌≤◌, ◌↔◌, List, Some, Err, IfOk, IsErrOf, IsTrue, OnErr, length};
 ghost use Rattle.fd_site.specs.Contents.{Told, file_of};
 ghost use Rattle.fd_site.specs.Fault.{Rose};
 ghost use Rattle.fd_site.specs.Name.{is_good_name};
@@ -7,12 +7,16 @@ ghost use Rattle.fd_site.specs.Seen.{Untouched};
 ghost use Rattle.fd_vmcore.specs.Sections.{IsOpening};
 ghost use Rattle.fd_kvm.specs.Answer.{bytes_in};
 ghost use Rattle.fd_kvm.specs.Reader.{IsRead, StandsFor, sections_of};
+ghost use Rattle.fd_kvm.specs.Visits.{AreOfWalk, IsWalk};
+ghost use Rattle.fd_kvm.specs.Walk.{walk_of};
 
 use crate::fault::ReadFault;
+use crate::page::Visit;
 use crate::vmcore::Vmcore;
+use fd_bitmap::Bitmap;
 use fd_cache::Pages;
 use fd_mini::AddressFault;
-use fd_site::Site;
+use fd_site::{Site, SiteFault};
 use fd_vmcore::{Core, OpenFault};
 use std::alloc::Global;
 use std::marker::Model;
@@ -23,14 +27,20 @@ use std::marker::Model;
 pub struct Kvm {
     vmcore: Vmcore,
     pages: Pages,
+    // A mark for each dumped page, which a walk sets.
+    walked: Bitmap,
 }
 
 impl Model for Kvm {
+    ghost use Rattle.std.specs.Prelude.{◌≡◌, length};
+    ghost use Rattle.fd_bitmap.specs.Bits.{set_count};
     ghost use Rattle.fd_kvm.specs.Reader.{Reader};
 
     ghost Value = { Reader };
 
     ghost view = { λ kvm. record { name = kvm.vmcore.name; sections = kvm.vmcore.sections; pages = kvm.pages } };
+
+    ghost invariant = { λ kvm. length kvm.walked ≡ set_count kvm.vmcore.sections.bits };
 }
 
 impl Kvm {
@@ -54,9 +64,11 @@ impl Kvm {
         let core = Core::open(alloc, site, name)?;
         let name = String::from_str(alloc, name)?;
         let pages = Pages::new(alloc, capacity)?;
+        let walked = Bitmap::new(alloc, core.map().count())?;
         Ok(Kvm {
             vmcore: Vmcore { name, core },
             pages,
+            walked,
         })
     }
 
@@ -76,5 +88,28 @@ impl Kvm {
         ensures cause { IsErrOf result ReadFault.SiteFault → Rose (S.seen site.old).faults (S.seen site.new).faults }
     {
         self.vmcore.read(&mut self.pages, site, va, out)
+    }
+
+    /// Gives a visitor the dumped pages: first those that the kernel window maps, by rising address, and then the others, by
+    /// rising bit; up to and with the first after which it wants no more. After a fault of the site it was given the first
+    /// of them. A walk needs no memory, and asks the site for each entry of the page directory once at most. After any
+    /// answer the reader stands for the same file.
+    pub fn walk_pages<S: Site, V: Visit>(
+        &mut self,
+        site: &mut S,
+        visit: &mut V,
+    ) -> Result<(), SiteFault>
+        requires { Told (S.seen site.old).told (StandsFor self.old) }
+        ensures walk { IsWalk V.took visit.old visit.new result (λ pages went_on. Told (S.seen site.old).told (λ c. (f : List ℕ) → file_of c self.old.name ≡ Some f
+            → AreOfWalk result (walk_of f self.old.sections) pages went_on)) }
+        ensures stands { Told (S.seen site.new).told (StandsFor self.new) }
+        ensures name { self.new.name ≡ self.old.name }
+        ensures sections { self.new.sections ≡ self.old.sections }
+        ensures untouched { Untouched (S.seen site.old) (S.seen site.new) }
+        ensures cause { OnErr result (Rose (S.seen site.old).faults (S.seen site.new).faults) }
+    {
+        self.walked.clear_all();
+        self.vmcore
+            .walk(&mut self.pages, &mut self.walked, site, visit)
     }
 }

@@ -13,12 +13,12 @@ const KERNBASE: u64 = 0xffffffc000000000;
 
 const DMAPBASE: u64 = 0xffffffd000000000;
 
-const AMD64_KERNBASE: u64 = 0xfffffe0000000000;
+pub(crate) const AMD64_KERNBASE: u64 = 0xfffffe0000000000;
 
-const AMD64_DMAPBASE: u64 = 0xfffff80000000000;
+pub(crate) const AMD64_DMAPBASE: u64 = 0xfffff80000000000;
 
 // The header page of a machine of either architecture; where it has ranges, its direct map begins at 0x80000000.
-fn header_page(arch: Arch) -> [u8; 4096] {
+pub(crate) fn header_page(arch: Arch) -> [u8; 4096] {
     let header = match arch {
         Arch::Amd64 => MiniHeader {
             arch: Arch::Amd64,
@@ -54,7 +54,7 @@ fn header_page(arch: Arch) -> [u8; 4096] {
 
 // A riscv machine with six pages from 0x80000000 on. Those at 0x80001000, 0x80002000 and 0x80004000 are dumped, and have
 // the bytes 1, 2 and 4. The first two pages of the kernel window are at 0x80004000 and at 0x80003000.
-fn riscv_file(alloc: Global) -> Result<Vec<u8>, AllocError> {
+pub(crate) fn riscv_file(alloc: Global) -> Result<Vec<u8>, AllocError> {
     let mut bytes = vec![in alloc; 0u8; 32768]?;
     bytes[..4096].copy_from_slice(&header_page(Arch::Riscv));
     put_u64_le(bytes.as_mut_slice(), 8192, 0x80000000);
@@ -126,7 +126,11 @@ fn address(fault: AddressFault) -> Result<(), ReadFault> {
 }
 
 // A site with a file of these bytes, of whose calls those of these numbers fail.
-fn site_of(alloc: Global, bytes: Vec<u8>, fails: Vec<u64>) -> Result<MemSite, AllocError> {
+pub(crate) fn site_of(
+    alloc: Global,
+    bytes: Vec<u8>,
+    fails: Vec<u64>,
+) -> Result<MemSite, AllocError> {
     let mut site = MemSite::new(alloc, 512, 512, fails)?;
     site.preset_file("vmcore.0", bytes)?;
     Ok(site)

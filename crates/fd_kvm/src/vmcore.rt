@@ -1,10 +1,11 @@
 //! A file that was opened.
-ghost use Rattle.std.specs.Prelude.{◌≡◌, ◌%◌, ◌^◌, ◌<◌, IfSome, IsTrue};
+ghost use Rattle.std.specs.Prelude.{◌≡◌, ◌*◌, ◌%◌, ◌^◌, ◌<◌, length, IfSome, IsTrue};
 ghost use Rattle.fd_site.specs.Name.{is_good_name};
 ghost use Rattle.fd_mini.specs.Places.{places_of};
 ghost use Rattle.fd_vmcore.specs.Sections.{page_offset};
+ghost use Rattle.fd_kvm.specs.Parts.{first_place};
 
-use fd_bitmap::{Counted, Steps};
+use fd_bitmap::{Bitmap, Counted, Steps};
 use fd_mini::MiniHeader;
 use fd_vmcore::Core;
 use std::marker::Model;
@@ -49,6 +50,14 @@ impl Vmcore {
         self.core.header()
     }
 
+    // The bits, eight for each byte of the bitmap.
+    pub(crate) fn map(&self) -> &Bitmap
+        ensures bits { result.now ≡ self.now.sections.bits }
+        ensures len { length self.now.sections.bits ≡ 8 * self.now.sections.header.bitmapsize }
+    {
+        self.core.map()
+    }
+
     // Where the page directory begins in the file.
     pub(crate) fn directory(&self) -> u64
         ensures place { result ≡ (places_of self.now.sections.header).directory }
@@ -58,12 +67,21 @@ impl Vmcore {
         self.core.places().directory
     }
 
+    // Where the dumped pages begin in the file.
+    pub(crate) fn first_page(&self) -> u64
+        ensures place { result ≡ first_place self.now.sections }
+        ensures limit { result < 2 ^ 62 }
+    {
+        self.core.places().pages
+    }
+
     // Where the page of a physical address stands in the file, if it is dumped. An address in a direct map may have more
     // than 64 bits, and no page has such an address.
     pub(crate) fn find(&self, pa: u128) -> Option<u64>
         ensures place { result ≡ page_offset self.now.sections pa }
         ensures whole { IfSome result (λ page. page % 4096 ≡ 0) }
         ensures limit { IfSome result (λ page. page < 2 ^ 62) }
+        ensures low { IfSome result (λ _. pa < 2 ^ 64) }
     {
         match u64::try_from(pa) {
             Ok(pa) => self.core.find(pa, &mut Steps::<Looks>::new()),

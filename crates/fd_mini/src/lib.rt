@@ -10,8 +10,6 @@ mod layout;
 mod mini_fault;
 mod places;
 mod read;
-#[cfg(test)]
-mod tests;
 mod write;
 
 pub use address_fault::AddressFault;

@@ -1,20 +1,18 @@
 -- Turns, one after another.
-use Rattle.std.proofs.Common.{◌≡◌, inl, inr, ◌⊎◌, ℕ, zero, suc, ◌+◌, ◌<◌, ◌≤◌, List, [], ◌∷◌, ◌++◌, length, Option, Some, None, IsSome, Result, Ok, Err, IfErr, IsErrAnd, OnErr, OnOk, refl, sym, ◌∙◌, ap, subst, append_assoc, arith}
+use Rattle.std.proofs.Common.{◌≡◌, inl, inr, ◌⊎◌, ℕ, ◌≤◌, List, [], ◌∷◌, ◌++◌, Option, Some, None, Result, Ok, Err, IfErr, IsErrAnd, OnErr, OnOk, refl, sym, ◌∙◌, ap, subst, append_assoc, arith}
 use Rattle.std.proofs.lemmas.List.{append-nil}
-use Rattle.fd_info.specs.Name.{vmcore_name}
 use Rattle.fd_netmsg.specs.Message.{ack}
 use Rattle.fd_site.specs.Contents.{Contents, Told, Adds, file_of, with_entries}
 use Rattle.fd_site.specs.Fault.{Rose}
-use Rattle.fd_site.specs.Journal.{Entry}
 use Rattle.fd_site.specs.Seen.{Seen}
 use Rattle.fd_site.specs.Trace.{PortsEvent, NoneTaken, SlotOpened, Answered, grown}
 use Rattle.fd_site.specs.declared.ports.Peer.{Peer}
-use Rattle.fd_site.proofs.Told.{before, file_after-append, grown-append, grown-nil, with_entries-append, with_entries-nil}
-use Rattle.fd_netserver.specs.Files.{Files, files_after}
+use Rattle.fd_site.proofs.Told.{grown-append, grown-nil, with_entries-nil}
 use Rattle.fd_netserver.specs.History.{IsTurn, IsServerRun, NoneBroken, entries_in}
-use Rattle.fd_netserver.specs.Serving.{BreaksInput, BreaksOff, BreaksTurn, EndsBy, GoesOn, TurnsOn, IsGoing, IsServed, IsServedMore, IsServedTo, IsUnbroken, answers_of, events_of, finished_by, finished_in, input_event, turns_in}
-use Rattle.fd_netserver.specs.Session.{Input, Turn, Session, Open, nth, after_reply, sessions_after}
-use Rattle.fd_netserver.specs.Stands.{IsBrokenAt, StandsIn, StandsFor, AreThere, TurnOf}
+use Rattle.fd_netserver.specs.Serving.{BreaksOff, EndsBy, IsGoing, IsServedTo, IsUnbroken, answers_of, events_of, finished_by, finished_in, input_event, turns_in}
+use Rattle.fd_netserver.specs.Turning.{BreaksInput, BreaksTurn, GoesOn, TurnsOn, IsGrownInPart, IsServed, IsServedMore}
+use Rattle.fd_netserver.specs.Session.{Input, Turn, Session, after_reply, sessions_after}
+use Rattle.fd_netserver.specs.Stands.{IsBrokenAt, StandsFor, AreThere, TurnOf}
 use Rattle.fd_netserver.specs.declared.limits.Received.{Received}
 use Rattle.fd_netserver.specs.declared.limits.ServeFault.{ServeFault}
 use Rattle.fd_netserver.specs.declared.limits.ServeFault.TheVariants.{TurnsSpent, PortsFault, NoMemory}
@@ -114,17 +112,17 @@ module _ (old mid new : Seen) (seen now : Option (List PortsEvent)) (rs : List R
     };
   }
 
-  pub broken_answers : (now1 later : Option (List PortsEvent)) (given lacking : List PortsEvent) (was list : List Received) → was ≡ finished_in hs → list ≡ was ++ finished_by reply
-      → now1 ≡ grown now (input_event input ∷ []) → answers_of input.peer reply ≡ given ++ lacking → later ≡ grown now1 given → IsServedTo (BreaksOff PortsFault hs) old new seen later list
-  broken_answers now1 later given lacking was list listed noted taken parts answered = record {
+  pub broken_answers : (now1 later : Option (List PortsEvent)) (was list : List Received) → was ≡ finished_in hs → list ≡ was ++ finished_by reply
+      → now1 ≡ grown now (input_event input ∷ []) → IsGrownInPart now1 later (answers_of input.peer reply) → IsServedTo (BreaksOff PortsFault hs) old new seen later list
+  broken_answers now1 later was list listed noted taken answered = record {
     happened = hs ++ Some last ∷ [];
-    events = events_of hs ++ (input_event input ∷ given);
+    events = events_of hs ++ (input_event input ∷ answered.given);
     run = more_run old.told mid.told new.told hs last served.run served.entries adds.1 adds.2;
     entries = more_entries old.told mid.told new.told hs last served.run served.entries adds.1 adds.2;
     unbroken = unbroken_more old mid new rs hs last served.stands served.count count cause served.unbroken;
-    given = answered ∙ ap (λ (t : Option (List PortsEvent)). grown t given) taken ∙ last_events given;
+    given = answered.grows ∙ ap (λ (t : Option (List PortsEvent)). grown t answered.given) taken ∙ last_events answered.given;
     listed = noted ∙ ap (λ l. l ++ finished_by reply) listed ∙ ap (λ l. finished_in hs ++ l) (sym (append-nil (finished_by reply))) ∙ sym (finished_in-append hs (Some last ∷ []));
-    ended = inr (record { last = last; given = given; lacking = lacking; is = refl; answers = parts; events_are = refl });
+    ended = inr (record { last = last; given = answered.given; is = refl; answers = answered.part; events_are = refl });
   }
 
 -- want of memory came before the reply
@@ -172,10 +170,10 @@ served_new old seen rs none = record {
 
 -- the slot was opened, and the peer wasn't answered
 pub opened_only : {T E : Type 0} (r : Result T E) (old mid new : Option (List PortsEvent)) (peer : Peer) (reply : Reply) (slot seqno number : ℕ) → reply ≡ Opened slot seqno number
-    → mid ≡ grown old (SlotOpened slot ∷ []) → OnErr r (new ≡ mid)
-    → OnErr r ((given lacking : List PortsEvent) × (answers_of peer reply ≡ given ++ lacking) × (new ≡ grown old given))
+    → mid ≡ grown old (SlotOpened slot ∷ []) → OnErr r (new ≡ mid) → OnErr r (IsGrownInPart old new (answers_of peer reply))
 opened_only (Ok x) old mid new peer reply slot seqno number is step same = tt
-opened_only (Err e) old mid new peer reply slot seqno number is step same = (SlotOpened slot ∷ [], Answered slot peer (ack seqno) ∷ [], ap (answers_of peer) is, same ∙ step)
+opened_only (Err e) old mid new peer reply slot seqno number is step same =
+    record { given = SlotOpened slot ∷ []; part = record { next = Answered slot peer (ack seqno); lacking = []; is = ap (answers_of peer) is }; grows = same ∙ step }
 
 -- what an error that is handed on says
 pub passed : {T : Type 0} (r : Result T ServeFault) (why : ServeFault) (P : ServeFault → Type 0) → IsErrAnd r (λ e. e ≡ why) → P why → IfErr r P
@@ -199,10 +197,10 @@ module _ (was new : Seen) (told later : Option (List PortsEvent)) (rs : List Rec
     goes_on now list stands noted answered old seen had hs served taken =
         served_turn old was new seen had rs hs served input reply turn count cause told later now stands taken answered before list noted
 
-    pub breaks_at_answer : (list : List Received) → list ≡ before ++ finished_by reply → (given lacking : List PortsEvent) → answers_of input.peer reply ≡ given ++ lacking
-        → later ≡ grown told given → BreaksInput was new told later rs input before list PortsFault
-    breaks_at_answer list noted given lacking parts answered old seen had hs served taken listed =
-        broken_answers old was new seen had rs hs served input reply turn count cause told later given lacking before list listed noted taken parts answered
+    pub breaks_at_answer : (list : List Received) → list ≡ before ++ finished_by reply → IsGrownInPart told later (answers_of input.peer reply)
+        → BreaksInput was new told later rs input before list PortsFault
+    breaks_at_answer list noted answered old seen had hs served taken listed =
+        broken_answers old was new seen had rs hs served input reply turn count cause told later before list listed noted taken answered
 
   pub breaks_at_reply : new ≡ was → later ≡ told → BreaksInput was new told later rs input before before NoMemory
   breaks_at_reply same silent old seen had hs served taken listed =

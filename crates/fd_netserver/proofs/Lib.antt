@@ -1,5 +1,6 @@
 mod Alone
 pub mod Apart
+mod Complete
 pub mod Covered
 pub mod Finish
 mod Going

@@ -1,5 +1,5 @@
 -- A run goes on by one turn.
-use Rattle.std.proofs.Common.{◌≡◌, ℕ, List, [], ◌∷◌, ◌++◌, refl, subst}
+use Rattle.std.proofs.Common.{◌≡◌, List, [], ◌∷◌, ◌++◌, refl, subst}
 use Rattle.fd_site.specs.Journal.{Entry}
 use Rattle.fd_site.proofs.Told.{file_after-append}
 use Rattle.fd_netserver.specs.Files.{Files, files_after}

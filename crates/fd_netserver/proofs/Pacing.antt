@@ -1,8 +1,9 @@
 -- How long a server serves.
 use Rattle.std.proofs.Common.{◌≡◌, inl, inr, ℕ, zero, suc, ◌+◌, ◌-◌, ◌<◌, ◌≤◌, min, Bool, true, false, List, [], ◌∷◌, ◌++◌, length, take, Option, Some, None, refl, sym, ◌∙◌, ap, subst, arith, append_assoc, length-append}
-use Rattle.std.proofs.lemmas.List.{append-nil, take_all}
+use Rattle.std.proofs.lemmas.List.{append-nil}
 use Rattle.std.proofs.lemmas.Bool.{cases_lt}
-use Rattle.fd_netserver.specs.Serving.{AreFew, IsGoing, IsLingering, IsOver, IsPaced, IsPacedBy, IsServing, IsSpent, IsWaiting, finished_by, finished_in}
+use Rattle.fd_netserver.specs.Serving.{AreFew, IsGoing, IsLingering, IsOver, IsServing, IsSpent, IsWaiting, finished_by, finished_in}
+use Rattle.fd_netserver.specs.Turning.{IsPaced, IsPacedBy}
 use Rattle.fd_netserver.specs.Session.{Turn}
 use Rattle.fd_netserver.specs.declared.limits.Received.{Received}
 use Rattle.fd_netserver.specs.declared.limits.ServeLimits.{ServeLimits}

@@ -1,5 +1,5 @@
 -- Records and sessions in their places.
-use Rattle.std.proofs.Common.{◌≡◌, inl, inr, ◌⊎◌, IfSome, slice_get, ℕ, zero, suc, ◌+◌, ◌-◌, ◌<◌, ◌≤◌, Bool, List, [], ◌∷◌, ◌++◌, length, get_or, set, Option, Some, None, Result, Ok, Err, IfOk, IsSome, refl, sym, ◌∙◌, ap, subst, arith}
+use Rattle.std.proofs.Common.{◌≡◌, inl, inr, ◌⊎◌, IfSome, slice_get, ℕ, zero, suc, ◌+◌, ◌-◌, ◌<◌, ◌≤◌, List, [], ◌∷◌, ◌++◌, length, get_or, set, Option, Some, None, Result, Ok, Err, IfOk, IsSome, refl, sym, ◌∙◌, ap, subst, arith}
 use Rattle.fd_site.specs.declared.ports.Peer.{Peer}
 use Rattle.fd_site.specs.Contents.{Contents, Adds}
 use Rattle.fd_site.proofs.Told.{with_entries-nil}
@@ -7,13 +7,11 @@ use Rattle.fd_netmsg.specs.Each.{Each}
 use Rattle.fd_netmsg.specs.Message.{Message}
 use Rattle.fd_netserver.specs.declared.record.Record.{Record}
 use Rattle.fd_netserver.specs.declared.reply.Reply.{Reply}
-use Rattle.fd_netserver.specs.declared.reply.Reply.TheVariants.{Opened, Ack, Finished, Ignored}
+use Rattle.fd_netserver.specs.declared.reply.Reply.TheVariants.{Ignored}
 use Rattle.fd_netserver.specs.declared.reply.Skip.TheVariants as skip
-use Rattle.fd_info.specs.Name.{vmcore_name}
-use Rattle.fd_netserver.specs.Files.{Files}
 use Rattle.fd_netserver.specs.Session.{Input, Session, Phase, Open, Done, Broken, nth, session_at, change_nth, change_at}
 use Rattle.fd_netserver.specs.Table.{session_row}
-use Rattle.fd_netserver.specs.Stands.{IsBrokenAt, dones, done_of, finishes, StandsIn, StandsFor, AreThere, IsRowTurn, TurnOf, session_after}
+use Rattle.fd_netserver.specs.Stands.{IsBrokenAt, dones, done_of, finishes, StandsIn, StandsFor, IsRowTurn, TurnOf, session_after}
 
 -- the session of a record
 pub record HasSession (r : Record) (ss : List Session) (k : ℕ) : Type 0 where
@@ -131,13 +129,16 @@ port_done (Err e) rs qs view r now k within is done = tt
 port_done (Ok reply) rs qs view r now k within is done =
     omega (arith, dones-set rs k r now within, ap (λ (q : Record). done_of q.phase) is, ap dones view, done)
 
-pub port_cause : {E : Type 0} (result : Result Reply E) (P : Type 0) (rs qs : List Record) → rs ≡ qs → (r : Record) (slot n : ℕ) → n ≡ slot → n - 1 < length rs → r ≡ get_or rs (n - 1) r
+pub port_cause : {E : Type 0} (result : Result Reply E) (P : Type 0) (rs qs : List Record) → rs ≡ qs → (r : Record) (slot n : ℕ) → n ≡ slot → 1 ≤ slot → n - 1 < length rs → r ≡ get_or rs (n - 1) r
     → IfOk result (λ reply. reply ≡ Ignored skip.Broken → P ⊎ (r.phase ≡ Broken)) → IfOk result (λ reply. reply ≡ Ignored skip.Broken → P ⊎ IsBrokenAt qs slot)
-port_cause (Err e) P rs qs view r slot n same within is cause = tt
-port_cause (Ok reply) P rs qs view r slot n same within is cause = λ broken.
+port_cause (Err e) P rs qs view r slot n same some within is cause = tt
+port_cause (Ok reply) P rs qs view r slot n same some within is cause = λ broken.
     elim (cause broken) [
       | inl rose ↦ inl rose
-      | inr was ↦ inr (subst (λ (l : List Record). IsBrokenAt l slot) view (subst (λ i. IsBrokenAt rs i) same (at rs (n - 1) r within is was)))
+      | inr was ↦
+          let parts = at rs (n - 1) r within is was in
+          let broken_n : IsBrokenAt rs n = record { session = subst (λ i. 1 ≤ i) (sym same) some; there = parts.1; broken = parts.0 } in
+          inr (subst (λ (l : List Record). IsBrokenAt l slot) view (subst (λ i. IsBrokenAt rs i) same broken_n))
     ]
   where
     at : (rs : List Record) (k : ℕ) (r : Record) → k < length rs → r ≡ get_or rs k r → r.phase ≡ Broken → IfSome (slice_get rs k) (λ (q : Record). q.phase ≡ Broken) × IsSome (slice_get rs k)

@@ -1,5 +1,5 @@
 -- A server over one site since it was made.
-use Rattle.std.proofs.Common.{◌≡◌, ℕ, zero, suc, List, [], ◌∷◌, ◌++◌, Option, Some, None, IsSome, Result, Ok, Err, IfOk, OnOk, refl, sym, ◌∙◌, ap, subst, append_assoc}
+use Rattle.std.proofs.Common.{◌≡◌, ℕ, suc, List, [], ◌∷◌, ◌++◌, Option, Some, None, IsSome, Result, Ok, Err, IfOk, OnOk, refl, sym, ◌∙◌, ap, subst, append_assoc}
 use Rattle.std.proofs.lemmas.List.{append-nil}
 use Rattle.fd_info.specs.Name.{vmcore_name}
 use Rattle.fd_site.specs.Contents.{Contents, Told, Adds, file_of, with_entries}
@@ -13,7 +13,7 @@ use Rattle.fd_netserver.specs.declared.record.Record.{Record}
 use Rattle.fd_netserver.specs.declared.reply.Reply.{Reply}
 use Rattle.fd_netserver.proofs.More.{sessions_after-append, run_more}
 use Rattle.fd_netserver.proofs.Settled.{no_session}
-use Rattle.fd_netserver.proofs.Sound.{AreSound, IsOpen, sound_turn}
+use Rattle.fd_netserver.proofs.Sound.{AreSound, sound_turn}
 use Rattle.fd_netserver.proofs.Standing.{live_of}
 
 entries-behind : (ts : List Turn) (t : Turn) → entries_in (ts ++ t ∷ []) ≡ entries_in ts ++ t.entries

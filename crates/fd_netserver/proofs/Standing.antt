@@ -1,10 +1,9 @@
 -- What follows where a record stands for a session.
-use Rattle.std.proofs.Common.{◌≡◌, inl, inr, ◌⊎◌, ◌==◌, ℕ, zero, suc, ◌+◌, ◌-◌, ◌<◌, ◌≤◌, Bool, true, false, nat_le, nat_lt, ◌&&◌, ◌||◌, ◌↔◌, cond, List, [], ◌∷◌, ◌++◌, length, Option, Some, None, Result, Ok, Err, IsTrue, is_some, eqb-true, refl, sym, ◌∙◌, ap, subst, arith, length-append}
-use Rattle.std.proofs.lemmas.Bool.{cond_both, and_parts, or_cases, cases_Bool, cases_lt, leb-true, ltb-true, ltb-false}
+use Rattle.std.proofs.Common.{◌≡◌, inl, inr, ◌⊎◌, ◌==◌, ℕ, zero, suc, ◌+◌, ◌-◌, ◌<◌, ◌≤◌, Bool, true, false, nat_le, nat_lt, ◌&&◌, ◌||◌, ◌↔◌, cond, List, [], ◌∷◌, length, Option, Some, None, Ok, Err, IsTrue, is_some, eqb-true, refl, sym, ◌∙◌, ap, arith}
+use Rattle.std.proofs.lemmas.Bool.{and_parts, cases_lt, leb-true, ltb-true}
 use Rattle.std.proofs.lemmas.Bool.Decides.{nat_tests}
-use Rattle.fd_cover.specs.Intervals.{has, is_between, IsWhole, IsNone}
+use Rattle.fd_cover.specs.Intervals.{has, IsWhole, IsNone}
 use Rattle.fd_netmsg.specs.Each.{Each}
-use Rattle.fd_netmsg.specs.Message.{Message}
 use Rattle.fd_netserver.specs.declared.record.Record.{Record}
 use Rattle.fd_netserver.specs.Session.{Piece, Session, Phase, Open, Done, Broken, is_in, covers, each_below, all_within, is_whole, accepted, if_plain, is_plain}
 use Rattle.fd_netserver.specs.Table.{Skips, Ends, is_empty, ending, end_row}

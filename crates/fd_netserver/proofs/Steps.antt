@@ -1,12 +1,12 @@
 -- Calls on files, one after another.
-use Rattle.std.proofs.Common.{◌≡◌, inl, inr, ℕ, Bool, cond, List, [], ◌∷◌, Option, Some, None, IsSome, IsTrue, Result, Ok, Err, OnErr, codes, refl, sym, ◌∙◌, ap, subst}
+use Rattle.std.proofs.Common.{◌≡◌, inl, inr, ℕ, Bool, cond, List, [], ◌∷◌, Option, Some, None, IsSome, Result, Ok, Err, OnErr, refl, sym, ◌∙◌, ap, subst}
 use Rattle.std.specs.Option.{option_map}
 use Rattle.fd_site.specs.Begun.{IsBegun, IsFailed}
 use Rattle.fd_site.specs.Journal.{Entry, Create, Write, file_written}
-use Rattle.fd_site.specs.Contents.{Contents, Told, Adds, IsFailedFile, file_of, with_entries}
+use Rattle.fd_site.specs.Contents.{Contents, Told, Adds, file_of, with_entries}
 use Rattle.fd_site.proofs.Told.{before, with_entries-append}
 use Rattle.fd_kdh.specs.declared.header.Header.{Header}
-use Rattle.fd_info.specs.Info.{IsDevice, info_text}
+use Rattle.fd_info.specs.Info.{info_text}
 use Rattle.fd_info.specs.Name.{info_name, vmcore_name}
 use Rattle.fd_netserver.specs.Files.{device_name, end_of, finish_of}
 use Rattle.fd_netserver.proofs.Apart.{bytes_eq-same}

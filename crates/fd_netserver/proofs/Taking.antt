@@ -1,20 +1,19 @@
 -- What a record stands for after a message.
-use Rattle.std.proofs.Common.{◌≡◌, inl, inr, ◌⊎◌, ◌==◌, ℕ, ◌+◌, Bool, true, false, ◌||◌, cond, List, [], ◌∷◌, ◌++◌, length, Option, Some, None, Result, Ok, Err, IfOk, OnOk, refl, sym, ◌∙◌, ap, subst}
+use Rattle.std.proofs.Common.{◌≡◌, inl, inr, ◌⊎◌, ◌==◌, ℕ, ◌+◌, Bool, true, false, ◌||◌, cond, List, [], ◌∷◌, ◌++◌, length, Option, Some, Result, Ok, Err, IfOk, refl, sym, ◌∙◌, ap, subst}
 use Rattle.fd_cover.specs.Intervals.{has, is_between}
 use Rattle.fd_cover.specs.declared.interval.Interval.{Interval}
 use Rattle.fd_site.specs.declared.fault.Failed.{Failed}
-use Rattle.fd_netmsg.specs.Each.{Each}
 use Rattle.fd_netmsg.specs.Message.{Message, vmcore, kdh, finished}
 use Rattle.fd_netserver.specs.declared.record.Record.{Record}
 use Rattle.fd_netserver.specs.declared.reply.Reply.{Reply}
-use Rattle.fd_netserver.specs.declared.reply.Reply.TheVariants.{Opened, Ack, Finished, Ignored}
+use Rattle.fd_netserver.specs.declared.reply.Reply.TheVariants.{Ack}
 use Rattle.fd_netserver.specs.declared.reply.Skip.TheVariants as skip
-use Rattle.fd_netserver.specs.Session.{Input, same_peer, Piece, Session, Phase, Open, Done, Broken, is_in, covers, told, with_piece, with_phase}
+use Rattle.fd_netserver.specs.Session.{Input, same_peer, Piece, Session, Open, Broken, is_in, covers, told, with_piece, with_phase}
 use Rattle.fd_site.specs.declared.ports.Peer.{Peer}
 use Rattle.fd_site.specs.Contents.{Contents, Adds}
 use Rattle.fd_netserver.specs.declared.step.Step.{Step}
 use Rattle.fd_netserver.specs.Table.{Row, Skips, phase_row, session_row}
-use Rattle.fd_netserver.specs.Stands.{IsRowTurn, TurnOf, StepsTo, Holds, StandsIn, IsPiece, IsHeader, settled, phase_by, session_after}
+use Rattle.fd_netserver.specs.Stands.{IsRowTurn, TurnOf, StepsTo, StandsIn, IsPiece, IsHeader, settled, phase_by, session_after}
 use Rattle.fd_netserver.proofs.Lists.{Each-behind}
 use Rattle.fd_netserver.proofs.Standing.{live_of}
 

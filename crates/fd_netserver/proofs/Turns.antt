@@ -1,8 +1,6 @@
 -- A turn, from what is done at the herald's port and at a session's.
-use Rattle.std.proofs.Common.{◌≡◌, inl, inr, ℕ, ◌==◌, Bool, true, false, cond, List, [], ◌∷◌, ◌++◌, ◌-◌, Option, Some, None, Result, Ok, Err, IfOk, refl, sym, ◌∙◌, ap, subst}
+use Rattle.std.proofs.Common.{◌≡◌, inl, ℕ, ◌==◌, Bool, cond, List, [], ◌∷◌, ◌++◌, ◌-◌, Option, Some, None, Result, Ok, Err, IfOk, refl, sym, ◌∙◌, ap, subst}
 use Rattle.std.proofs.lemmas.Bool.{ne_eqb}
-use Rattle.std.proofs.lemmas.Bool.Decides.{nat_tests}
-use Rattle.fd_site.specs.declared.ports.Peer.{Peer}
 use Rattle.fd_site.specs.Contents.{Contents, Told, Adds, file_of}
 use Rattle.fd_site.proofs.Told.{with_entries-nil}
 use Rattle.fd_netmsg.specs.Message.{Message, message_of}

@@ -5,3 +5,5 @@ pub mod Serving
 pub mod Session
 pub mod Stands
 pub mod Table
+pub mod Turning
+pub mod Whole

@@ -1,5 +1,5 @@
 -- What a server's ports and site have after its turns, and when it ends.
-use Rattle.std.specs.Prelude.{◌≡◌, ◌⊎◌, ℕ, ◌+◌, ◌-◌, ◌<◌, ◌≤◌, min, Bool, true, false, List, [], ◌∷◌, ◌++◌, length, take, Option, Some, None}
+use Rattle.std.specs.Prelude.{◌≡◌, ◌⊎◌, ℕ, ◌+◌, ◌-◌, ◌<◌, ◌≤◌, min, List, [], ◌∷◌, ◌++◌, length, take, Option, Some, None}
 use Rattle.fd_netmsg.specs.Message.{ack}
 use Rattle.fd_site.specs.Contents.{Told, file_of, with_entries}
 use Rattle.fd_site.specs.Fault.{Rose}
@@ -7,14 +7,11 @@ use Rattle.fd_site.specs.Seen.{Seen}
 use Rattle.fd_site.specs.Trace.{PortsEvent, SlotOpened, Taken, NoneTaken, Answered, grown}
 use Rattle.fd_site.specs.declared.ports.Peer.{Peer}
 use Rattle.fd_netserver.specs.History.{IsServerRun, NoneBroken, entries_in}
-use Rattle.fd_netserver.specs.Session.{Input, Turn, sessions_after}
-use Rattle.fd_netserver.specs.Stands.{StandsFor}
+use Rattle.fd_netserver.specs.Session.{Input, Turn}
 use Rattle.fd_netserver.specs.declared.limits.ServeLimits.{ServeLimits}
 use Rattle.fd_netserver.specs.declared.limits.Received.{Received}
 use Rattle.fd_netserver.specs.declared.limits.ServeFault.{ServeFault}
 use Rattle.fd_netserver.specs.declared.limits.ServeFault.TheVariants.{TurnsSpent, PortsFault, NoMemory}
-use Rattle.fd_netserver.specs.declared.pace.Pace.{Pace}
-use Rattle.fd_netserver.specs.declared.record.Record.{Record}
 use Rattle.fd_netserver.specs.declared.reply.Reply.{Reply}
 use Rattle.fd_netserver.specs.declared.reply.Reply.TheVariants.{Opened, Ack, Finished, Ignored}
 
@@ -62,23 +59,18 @@ finished_in (Some t ∷ hs) = finished_by t.reply ++ finished_in hs
 abbrev pub IsUnbroken : (was now : ℕ) → List (Option Turn) → Type 0
 IsUnbroken was now happened = NoneBroken (turns_in happened) ⊎ Rose was now
 
--- what happened since a server was made: its turns are a server run, and the site and the ports have just their entries
--- and events
-pub record IsServed (old new : Seen) (seen now : Option (List PortsEvent)) (rs : List Record) (happened : List (Option Turn)) : Type 0 where
-  pub run : Told old.told (λ c. IsServerRun [] (file_of c) (turns_in happened))
-  pub entries : new.told ≡ with_entries old.told (entries_in (turns_in happened))
-  pub count : old.faults ≤ new.faults
-  pub unbroken : IsUnbroken old.faults new.faults happened
-  pub events : now ≡ grown seen (events_of happened)
-  pub stands : StandsFor rs (sessions_after [] (turns_in happened))
+-- so much of what the ports are asked was done, and not all
+pub record IsDoneInPart (asked given : List PortsEvent) : Type 0 where
+  pub next : PortsEvent
+  pub lacking : List PortsEvent
+  pub is : asked ≡ given ++ next ∷ lacking
 
 -- behind what happened before, one turn more was answered in part, or not at all
 pub record IsUnanswered (before happened : List (Option Turn)) (events : List PortsEvent) : Type 0 where
   pub last : Turn
   pub given : List PortsEvent
-  pub lacking : List PortsEvent
   pub is : happened ≡ before ++ Some last ∷ []
-  pub answers : answers_of last.input.peer last.reply ≡ given ++ lacking
+  pub answers : IsDoneInPart (answers_of last.input.peer last.reply) given
   pub events_are : events ≡ events_of before ++ input_event last.input ∷ given
 
 -- behind what happened before, the ports gave nothing
@@ -109,34 +101,6 @@ pub record IsServedTo (ends : List (Option Turn) → List PortsEvent → Type 0)
   pub given : now ≡ grown seen events
   pub listed : list ≡ finished_in happened
   pub ended : ends happened events
-
--- one turn more, and what it adds to the list
-pub record IsServedMore (old new : Seen) (seen now : Option (List PortsEvent)) (rs : List Record) (before : List (Option Turn)) (was list : List Received) : Type 0 where
-  pub last : Option Turn
-  pub served : IsServed old new seen now rs (before ++ last ∷ [])
-  pub listed : list ≡ was ++ finished_in (last ∷ [])
-
--- What an input that the ports gave makes of what happened so far: one turn more, or the turn is broken off.
-abbrev pub GoesOn : (was new : Seen) (told later : Option (List PortsEvent)) (rs now : List Record) (input : Input) (before list : List Received) → Type 0
-GoesOn was new told later rs now input before list =
-    (old : Seen) (seen had : Option (List PortsEvent)) (hs : List (Option Turn))
-    → IsServed old was seen had rs hs → told ≡ grown had (input_event input ∷ []) → IsServedMore old new seen later now hs before list
-
-abbrev pub BreaksInput : (was new : Seen) (told later : Option (List PortsEvent)) (rs : List Record) (input : Input) (before list : List Received) → ServeFault → Type 0
-BreaksInput was new told later rs input before list why =
-    (old : Seen) (seen had : Option (List PortsEvent)) (hs : List (Option Turn))
-    → IsServed old was seen had rs hs → told ≡ grown had (input_event input ∷ []) → before ≡ finished_in hs → IsServedTo (BreaksOff why hs) old new seen later list
-
--- The same of a turn, which begins with a look at the ports.
-abbrev pub TurnsOn : (was new : Seen) (told later : Option (List PortsEvent)) (rs now : List Record) (before list : List Received) → Type 0
-TurnsOn was new told later rs now before list =
-    (old : Seen) (seen : Option (List PortsEvent)) (hs : List (Option Turn))
-    → IsServed old was seen told rs hs → IsServedMore old new seen later now hs before list
-
-abbrev pub BreaksTurn : (was new : Seen) (told later : Option (List PortsEvent)) (rs : List Record) (before list : List Received) → ServeFault → Type 0
-BreaksTurn was new told later rs before list why =
-    (old : Seen) (seen : Option (List PortsEvent)) (hs : List (Option Turn))
-    → IsServed old was seen told rs hs → before ≡ finished_in hs → IsServedTo (BreaksOff why hs) old new seen later list
 
 -- some turns, none of which comes when so many sessions were finished
 abbrev pub AreFew : ℕ → List (Option Turn) → Type 0
@@ -172,13 +136,6 @@ pub record IsLingering (limits : ServeLimits) (left : ℕ) (happened : List (Opt
   pub finished : length (finished_in first) ≡ limits.dumps
   pub within : length first ≤ limits.turns
   pub turns : left + length linger ≡ min limits.linger (limits.turns - length first)
-
-abbrev pub IsPacedBy : ServeLimits → (waits : Bool) (left : ℕ) → List (Option Turn) → Type 0
-IsPacedBy limits true left happened = IsWaiting limits left happened
-IsPacedBy limits false left happened = IsLingering limits left happened
-
-abbrev pub IsPaced : ServeLimits → Pace → List (Option Turn) → Type 0
-IsPaced limits pace happened = IsPacedBy limits pace.waits pace.left happened
 
 -- turns are left, for dumps that are waited for or to linger
 pub record IsGoing (limits : ServeLimits) (happened : List (Option Turn)) : Type 0 where

@@ -117,9 +117,11 @@ pub record IsBegunRow (row : Row) (es : List Entry) : Type 0 where
   pub may : IsTrue (may_break row)
   pub begun : IsBegun (entries_of row) es
 
--- the record of a slot is broken
-abbrev pub IsBrokenAt : List Record → ℕ → Type 0
-IsBrokenAt rs slot = IfSome (slice_get rs (slot - 1)) (λ (r : Record). r.phase ≡ Broken) × IsSome (slice_get rs (slot - 1))
+-- the record of a session's slot is broken
+pub record IsBrokenAt (rs : List Record) (slot : ℕ) : Type 0 where
+  pub session : 1 ≤ slot
+  pub there : IsSome (slice_get rs (slot - 1))
+  pub broken : IfSome (slice_get rs (slot - 1)) (λ (r : Record). r.phase ≡ Broken)
 
 -- how many sessions a reply finishes
 abbrev pub finishes : Reply → ℕ

@@ -1,12 +1,19 @@
 //! What holds of the histories of servers.
 
-ghost use Rattle.std.specs.Prelude.{◌≡◌, ℕ, List, [], ◌++◌, Option, Some};
+ghost use Rattle.std.specs.Prelude.{◌≡◌, ◌⊎◌, ℕ, List, [], ◌++◌, Option, Some};
+ghost use Rattle.fd_kdh.specs.declared.header.Header.{Header};
 ghost use Rattle.fd_netmsg.specs.Each.{Each};
-ghost use Rattle.fd_netserver.specs.Files.{Files};
-ghost use Rattle.fd_netserver.specs.Session.{Input, Open, Session, Turn, after_reply, session_at, sessions_after};
-ghost use Rattle.fd_netserver.specs.Stands.{AreThere, StandsFor, TurnOf};
+ghost use Rattle.fd_netmsg.specs.Message.{Message, finished};
+ghost use Rattle.fd_netserver.specs.Files.{Files, parity_of};
+ghost use Rattle.fd_netserver.specs.Session.{Done, Input, Open, Session, Turn, after_reply, session_at, sessions_after};
+ghost use Rattle.fd_netserver.specs.Stands.{AreThere, IsBrokenAt, StandsFor, TurnOf};
+ghost use Rattle.fd_netserver.specs.Table.{Ends, Repeats, row_of};
+ghost use Rattle.fd_netserver.specs.Whole.{HasAll, IsTo};
 ghost use Rattle.fd_netserver.specs.declared.reply.Reply.{Reply};
-ghost use Rattle.fd_netserver.specs.History.{IsServerRun, IsTurn, on_slot, inputs_of, replies_of, NoneBroken, IsWhole, LeavesFiles};
+ghost use Rattle.fd_netserver.specs.declared.reply.Reply.TheVariants.{Ignored};
+ghost use Rattle.fd_netserver.specs.declared.reply.Skip.TheVariants as skip;
+ghost use Rattle.fd_site.specs.Fault.{Rose};
+ghost use Rattle.fd_netserver.specs.History.{IsDone, IsServerRun, IsTurn, on_slot, inputs_of, replies_of, NoneBroken, IsWhole, LeavesFiles};
 ghost use Rattle.fd_netserver.specs.Running.{HasServed};
 ghost use Rattle.fd_netserver.specs.declared.record.Record.{Record};
 ghost use Rattle.fd_site.specs.Contents.{Adds, Contents, Told, file_of};
@@ -42,4 +49,22 @@ pub fn each_turn_may_be_taken()
         → ((ss : List Session) → StandsFor rs ss → Adds (λ es. Told told (λ c. IsTurn ss (file_of c) (TurnOf input reply es))) told later)
         → ((ss : List Session) → StandsFor rs ss → StandsFor now (after_reply ss input reply))
         → HasServed later now }
+{}
+
+/// A turn of which `Server::take` ensures all that it ensures: the datagram's row was done, or the site's count of faults rose
+/// in the call.
+pub fn without_a_fault_a_turn_is_done()
+    ensures { (was now : ℕ) (rs : List Record) (ss : List Session) (files : Files) (t : Turn)
+        → StandsFor rs ss → IsTurn ss files t → (t.reply ≡ Ignored skip.Broken → Rose was now ⊎ IsBrokenAt rs t.input.slot)
+        → Rose was now ⊎ IsDone (row_of ss files t.input) t }
+{}
+
+/// A finished message from the peer of an open session that has all of its dump ends the session, and one to a session that is
+/// done already is acknowledged again: by the law above, in each call in which no fault of the site comes and memory is found.
+pub fn a_whole_session_is_finished()
+    ensures ends { (ss : List Session) (files : Files) (input : Input) (s : Session) (m : Message)
+        → IsTo ss input s m → m.kind ≡ finished → (bytes : List ℕ) (h : Header) → s.phase ≡ Open → HasAll s bytes h
+        → row_of ss files input ≡ Ends input.slot m.seqno s.number h (parity_of bytes) }
+    ensures again { (ss : List Session) (files : Files) (input : Input) (s : Session) (m : Message)
+        → IsTo ss input s m → m.kind ≡ finished → s.phase ≡ Done → row_of ss files input ≡ Repeats input.slot m.seqno }
 {}

@@ -1,7 +1,8 @@
 //! How much longer a server serves.
 
 ghost use Rattle.std.specs.Prelude.{◌≡◌, ◌<◌, [], ◌∷◌, ◌++◌, List, Option, length};
-ghost use Rattle.fd_netserver.specs.Serving.{IsPaced, IsServing, finished_in};
+ghost use Rattle.fd_netserver.specs.Serving.{IsServing, finished_in};
+ghost use Rattle.fd_netserver.specs.Turning.{IsPaced};
 ghost use Rattle.fd_netserver.specs.Session.{Turn};
 
 use crate::limits::ServeLimits;

@@ -122,7 +122,7 @@ impl Record {
                 }
                 Step::Skips(Skip::NotWhole)
             }
-            None => Step::Skips(Skip::NotWhole),
+            _ => Step::Skips(Skip::NotWhole),
         }
     }
 

@@ -64,35 +64,42 @@ fn receives<P: Ports, S: Site>(
     Ok(list.len() == 1)
 }
 
-#[test]
-fn a_dump_in_two_pieces_is_received(rt: HostRuntime) -> Result<(), Fail> {
-    let alloc = rt.alloc();
+// Serves one dump over a script, and ports of which the calls of these numbers fail.
+fn serves(
+    rt: &impl Abort,
+    alloc: Global,
+    script: Vec<Input>,
+    fails: Vec<u64>,
+    turns: u64,
+    wanted: Result<(), ServeFault>,
+) -> Result<bool, Fail>
+    requires script { All HasSlot script.items }
+    requires turns { 1 ≤ turns }
+{
     let mut site = MemSite::new(alloc, 0, 512, Vec::new(alloc))?;
-    let mut ports = MemPorts::new(alloc, script(alloc)?, Vec::new(alloc));
-    assert!(rt; receives(&rt, alloc, &mut ports, &mut site, 8, Ok(()))?);
-    Ok(())
+    let mut ports = MemPorts::new(alloc, script, fails);
+    receives(rt, alloc, &mut ports, &mut site, turns, wanted)
 }
 
 #[test]
 fn turns_over_silent_ports_are_spent(rt: HostRuntime) -> Result<(), Fail> {
     let alloc = rt.alloc();
-    let mut site = MemSite::new(alloc, 0, 512, Vec::new(alloc))?;
-    let mut ports = MemPorts::new(alloc, Vec::new(alloc), Vec::new(alloc));
     let spent = Err(ServeFault::TurnsSpent(5));
-    assert!(rt; !receives(&rt, alloc, &mut ports, &mut site, 5, spent)?);
+    let silent = Vec::new(alloc);
+    assert!(rt; !serves(&rt, alloc, silent, Vec::new(alloc), 5, spent)?);
     Ok(())
 }
 
-// Serves the dump over ports of which one call fails: each before the answer to its end loses it.
+// Serves the dump over ports of which one call fails: a call behind the last of the dump's datagrams doesn't lose it, and one
+// behind the last turn isn't made.
 fn fails_at(rt: &impl Abort, alloc: Global, failing: u64) -> Result<(), Fail> {
-    let mut site = MemSite::new(alloc, 0, 512, Vec::new(alloc))?;
-    let mut ports = MemPorts::new(alloc, script(alloc)?, vec![in alloc; failing]?);
     let wanted = if failing <= 13 {
         Err(ServeFault::PortsFault)
     } else {
         Ok(())
     };
-    let received = receives(rt, alloc, &mut ports, &mut site, 8, wanted)?;
+    let fails = vec![in alloc; failing]?;
+    let received = serves(rt, alloc, script(alloc)?, fails, 8, wanted)?;
     assert_eq!(rt; received, failing >= 11, "{failing}");
     Ok(())
 }

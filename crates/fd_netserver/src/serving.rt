@@ -1,7 +1,8 @@
 //! The turns of a server.
 
 ghost use Rattle.std.specs.Prelude.{◌≡◌, ◌≤◌, ◌+◌, [], ◌++◌, List, IfErr, IsErrOf, OnErr, OnOk, length};
-ghost use Rattle.fd_netserver.specs.Serving.{BreaksInput, BreaksTurn, EndsBy, EndsDone, GoesOn, IsServedTo, IsServing, TurnsOn, answers_of, finished_by};
+ghost use Rattle.fd_netserver.specs.Serving.{EndsBy, EndsDone, IsServedTo, IsServing, answers_of, finished_by};
+ghost use Rattle.fd_netserver.specs.Turning.{BreaksInput, BreaksTurn, GoesOn, IsGrownInPart, TurnsOn};
 ghost use Rattle.fd_netserver.specs.Stands.{AreThere, dones, finishes};
 ghost use Rattle.fd_netserver.specs.declared.limits.ServeFault.TheVariants as fault;
 ghost use Rattle.fd_site.specs.Contents.{Told, file_of};
@@ -21,7 +22,7 @@ use std::alloc::Global;
 // Answers a peer; the slot of a new session is opened before.
 fn respond<P: Ports>(ports: &mut P, peer: Peer, reply: Reply) -> Result<(), Failed>
     ensures ok { OnOk result ((P.seen ports.new).told ≡ grown (P.seen ports.old).told (answers_of peer reply)) }
-    ensures err { OnErr result ((given lacking : List PortsEvent) × (answers_of peer reply ≡ given ++ lacking) × ((P.seen ports.new).told ≡ grown (P.seen ports.old).told given)) }
+    ensures err { OnErr result (IsGrownInPart (P.seen ports.old).told (P.seen ports.new).told (answers_of peer reply)) }
     ensures count { (P.seen ports.old).faults ≤ (P.seen ports.new).faults }
     ensures cause { OnErr result (Rose (P.seen ports.old).faults (P.seen ports.new).faults) }
 {

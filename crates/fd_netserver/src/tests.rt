@@ -1,16 +1,17 @@
 //! What a server answers to tables of messages, over sites in memory.
 
-ghost use Rattle.std.specs.Prelude.{◌≡◌, ◌≤◌, [], OnOk};
+ghost use Rattle.std.specs.Prelude.{◌≡◌, ◌≤◌, OnOk};
 ghost use Rattle.fd_kdh.specs.Header.{FitsFields};
 ghost use Rattle.fd_netserver.specs.Running.{HasServed};
 
 use crate::{Reply, Server, Skip};
 use fd_bytes::{Arch, Label};
 use fd_fake::MemSite;
+use fd_info::vmcore_name;
 use fd_kdh::{Header, encode};
 use fd_netmsg::{FINISHED, HERALD, KDH, KEY, VMCORE, put_message};
 use fd_site::{Peer, Site};
-use std::alloc::AllocError;
+use std::alloc::{AllocError, Global};
 use std::process::Abort;
 use std::test::Fail;
 
@@ -158,10 +159,27 @@ fn opened(slot: u16, seqno: u32) -> Reply
     }
 }
 
+// A new server over a site, of which the calls of these numbers fail, answers each message by the reply beside it; and then
+// a file has so many bytes.
 #[tactic(auto, using(crate::proofs::Running::has_none))]
-fn finishes_whole<S: Site>(rt: &impl Abort, server: &mut Server, site: &mut S) -> Result<(), Fail>
-    requires { server.old ≡ [] }
-{
+fn runs(
+    rt: &impl Abort,
+    alloc: Global,
+    fails: Vec<u64>,
+    table: &[(Sent, Reply)],
+    number: u32,
+    length: u64,
+) -> Result<(), Fail> {
+    let mut server = Server::new(alloc);
+    let mut site = MemSite::new(alloc, 0, 512, fails)?;
+    answers(rt, &mut server, &mut site, table)?;
+    let name = vmcore_name(number);
+    assert_eq!(rt; site.file_len(name.as_str())?, Some(length));
+    Ok(())
+}
+
+#[test]
+fn a_dump_is_finished_when_it_is_whole(rt: HostRuntime) -> Result<(), Fail> {
     let mut stranger = first(5, Says::Finished);
     stranger.peer = OTHER;
     let finished = Reply::Finished {
@@ -182,64 +200,37 @@ fn finishes_whole<S: Site>(rt: &impl Abort, server: &mut Server, site: &mut S) -
         (first(5, Says::Finished), acked(5)),
         (first(2, Says::Data(0, 4)), Reply::Ignored(Skip::Closed)),
     ];
-    answers(rt, server, site, table.as_slice())
-}
-
-#[test]
-fn a_dump_is_finished_when_it_is_whole(rt: HostRuntime) -> Result<(), Fail> {
     let alloc = rt.alloc();
-    let mut server = Server::new(alloc);
-    let mut site = MemSite::new(alloc, 0, 512, Vec::new(alloc))?;
-    finishes_whole(&rt, &mut server, &mut site)?;
-    assert_eq!(rt; site.file_len("vmcore.0")?, Some(8));
-    Ok(())
+    runs(&rt, alloc, Vec::new(alloc), table.as_slice(), 0, 8)
 }
 
-// So many peers each open a session.
-fn sixteen_open<S: Site>(rt: &impl Abort, server: &mut Server, site: &mut S) -> Result<(), Fail>
-    requires { HasServed (S.seen site.old).told server.old }
-    ensures { OnOk result (HasServed (S.seen site.new).told server.new) }
+// The herald of the peer of a number, and what a new server answers it.
+fn nth_herald(i: u16) -> (Sent, Reply)
+    requires { i ≤ 16 }
 {
-    for i in 0..16_u16 {
-        let peer = Peer {
-            address: u32::from(i),
-            port: 20024,
-        };
-        let seqno = 100 + u32::from(i);
-        let table = [(herald(peer, seqno), opened(i + 1, seqno))];
-        answers(rt, server, site, table.as_slice())?;
-    }
-    Ok(())
-}
-
-#[tactic(auto, using(crate::proofs::Running::has_none))]
-fn is_full<S: Site>(rt: &impl Abort, server: &mut Server, site: &mut S) -> Result<(), Fail>
-    requires { server.old ≡ [] }
-{
-    sixteen_open(rt, server, site)?;
-    let mut again = herald(PEER, 8);
-    again.peer.address = 0;
-    let table = [
-        (herald(PEER, 7), Reply::Ignored(Skip::Full)),
-        (again, acked(8)),
-    ];
-    answers(rt, server, site, table.as_slice())
+    let peer = Peer {
+        address: u32::from(i),
+        port: 20024,
+    };
+    let seqno = 100 + u32::from(i);
+    (herald(peer, seqno), opened(i + 1, seqno))
 }
 
 #[test]
 fn a_server_opens_sixteen_sessions(rt: HostRuntime) -> Result<(), Fail> {
+    let mut again = nth_herald(0).0;
+    again.seqno = 8;
+    let mut table = [(again, acked(8)); 18];
+    for i in 0..16_u16 {
+        table[usize::from(i)] = nth_herald(i);
+    }
+    table[16] = (nth_herald(16).0, Reply::Ignored(Skip::Full));
     let alloc = rt.alloc();
-    let mut server = Server::new(alloc);
-    let mut site = MemSite::new(alloc, 0, 512, Vec::new(alloc))?;
-    is_full(&rt, &mut server, &mut site)?;
-    assert_eq!(rt; site.file_len("vmcore.15")?, Some(0));
-    Ok(())
+    runs(&rt, alloc, Vec::new(alloc), table.as_slice(), 15, 0)
 }
 
-#[tactic(auto, using(crate::proofs::Running::has_none))]
-fn refuses<S: Site>(rt: &impl Abort, server: &mut Server, site: &mut S) -> Result<(), Fail>
-    requires { server.old ≡ [] }
-{
+#[test]
+fn what_is_too_far_is_refused(rt: HostRuntime) -> Result<(), Fail> {
     let end = 1 << 40;
     let table = [
         (herald(PEER, 1), opened(1, 1)),
@@ -255,25 +246,13 @@ fn refuses<S: Site>(rt: &impl Abort, server: &mut Server, site: &mut S) -> Resul
         (first(8, Says::Data(8, 1)), acked(8)),
         (first(9, Says::Finished), Reply::Ignored(Skip::NotWhole)),
     ];
-    answers(rt, server, site, table.as_slice())
-}
-
-#[test]
-fn what_is_too_far_is_refused(rt: HostRuntime) -> Result<(), Fail> {
     let alloc = rt.alloc();
-    let mut server = Server::new(alloc);
-    let mut site = MemSite::new(alloc, 0, 512, Vec::new(alloc))?;
-    refuses(&rt, &mut server, &mut site)?;
-    assert_eq!(rt; site.file_len("vmcore.0")?, Some(9));
-    Ok(())
+    runs(&rt, alloc, Vec::new(alloc), table.as_slice(), 0, 9)
 }
 
 // The first session meets a fault at its first data, and the second one ends.
-#[tactic(auto, using(crate::proofs::Running::has_none))]
-fn goes_on<S: Site>(rt: &impl Abort, server: &mut Server, site: &mut S) -> Result<(), Fail>
-    requires { server.old ≡ [] }
-{
-    let acked = |seqno| Reply::Ack { slot: 2, seqno };
+#[test]
+fn a_fault_of_the_site_breaks_one_session(rt: HostRuntime) -> Result<(), Fail> {
     let finished = Reply::Finished {
         seqno: 5,
         slot: 2,
@@ -285,19 +264,13 @@ fn goes_on<S: Site>(rt: &impl Abort, server: &mut Server, site: &mut S) -> Resul
         (herald(OTHER, 1), opened(2, 1)),
         (first(2, Says::Data(0, 1)), Reply::Ignored(Skip::Broken)),
         (first(3, Says::Finished), Reply::Ignored(Skip::Broken)),
-        (second(2, Says::Data(0, 8)), acked(2)),
-        (second(4, Says::Header(8)), acked(4)),
+        (
+            second(2, Says::Data(0, 8)),
+            Reply::Ack { slot: 2, seqno: 2 },
+        ),
+        (second(4, Says::Header(8)), Reply::Ack { slot: 2, seqno: 4 }),
         (second(5, Says::Finished), finished),
     ];
-    answers(rt, server, site, table.as_slice())
-}
-
-#[test]
-fn a_fault_of_the_site_breaks_one_session(rt: HostRuntime) -> Result<(), Fail> {
     let alloc = rt.alloc();
-    let mut server = Server::new(alloc);
-    let mut site = MemSite::new(alloc, 0, 512, vec![in alloc; 8]?)?;
-    goes_on(&rt, &mut server, &mut site)?;
-    assert_eq!(rt; site.file_len("vmcore.1")?, Some(8));
-    Ok(())
+    runs(&rt, alloc, vec![in alloc; 8]?, table.as_slice(), 1, 8)
 }

@@ -1,7 +1,7 @@
 -- A file whose last entry in a part of a journal is a sync, in cuts behind that part.
-use Rattle.std.proofs.Common.{◌≡◌, ℕ, zero, suc, ◌-◌, ◌≤◌, Bool, true, not, List, [], ◌∷◌, ◌++◌, length, take, drop, cond, Option, refl, sym, ◌∙◌, ap, arith, append_assoc}
+use Rattle.std.proofs.Common.{◌≡◌, ℕ, zero, suc, ◌-◌, ◌≤◌, Bool, true, not, List, [], ◌∷◌, ◌++◌, length, take, drop, Option, sym, ◌∙◌, ap, arith, append_assoc}
 use Rattle.std.proofs.lemmas.Bool.{and_from}
-use Rattle.fd_site.specs.Journal.{Entry, is_on, is_sync, file_after, stable_after}
+use Rattle.fd_site.specs.Journal.{Entry, file_after, stable_after}
 use Rattle.fd_site.specs.Cut.{stable_at, is_on_first}
 use Rattle.fd_site.proofs.Told.{file_after-append, stable_after-append}
 use Rattle.fd_netserver.proofs.Apart.{NoneOn, NoneOn-take, first_none, file_after-none, stable_after-none}

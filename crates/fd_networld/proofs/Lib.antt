@@ -1,3 +1,13 @@
+mod Carrying
+mod Chunks
 mod Cuts
+mod Examples
+mod Lawful
+mod Running
 mod Says
+mod Sending
 mod Served
+mod Showing
+mod There
+mod Walking
+mod Watching

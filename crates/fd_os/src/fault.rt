@@ -26,6 +26,21 @@ pub fn say<R: Eprint + AllocGlobal>(rt: &R, what: &str, why: io::Error) {
     };
 }
 
+/// Says the first loss of what may be lost, as a datagram.
+pub(crate) fn lost<R: Eprint + AllocGlobal>(
+    rt: &R,
+    what: &str,
+    losses: &mut u64,
+    outcome: io::Result<()>,
+) {
+    if let Err(why) = outcome {
+        if *losses == 0 {
+            say(rt, what, why);
+        }
+        *losses = losses.saturating_add(1);
+    }
+}
+
 // Counts the fault where there is one, and says the first.
 pub(crate) fn counted<T: Drop, R: Eprint + AllocGlobal>(
     rt: &R,

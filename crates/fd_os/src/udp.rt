@@ -8,8 +8,11 @@ use std::rt::Clock;
 use std::time::{Duration, Instant};
 use std::{io, thread};
 
-/// How many naps a wait has at most: a nap takes a microsecond at least, and most often some fifty.
-pub(crate) const MOST_NAPS: u32 = 900;
+/// How many looks a wait has at most: a nap between two of them takes a microsecond at least, and most often some fifty.
+pub(crate) const MOST_LOOKS: u32 = 900;
+
+/// How many of the first looks follow one another without a nap, since an answer most often comes at once.
+const EAGER_LOOKS: u32 = 16;
 
 /// Where a datagram came from, and how many of its bytes were given.
 #[derive(Clone, Copy)]
@@ -52,9 +55,13 @@ pub(crate) fn look(socket: &UdpSocket, out: &mut [u8]) -> io::Result<Option<Arri
     }
 }
 
-/// Sleeps as short as the system can, and answers whether a wait that began then goes on: in all it takes less than a
-/// millisecond. A sleep of a millisecond would leave datagrams lying, and a timeout of the socket takes eight.
-pub(crate) fn nap<R: Clock>(rt: &R, began: &Instant) -> io::Result<bool> {
+/// Goes on to the next look of a wait that began then, if there is one: in all a wait takes less than a millisecond. The first
+/// looks follow at once, later ones behind the shortest sleep that the system has. A sleep of a millisecond would leave
+/// datagrams lying, and a timeout of the socket takes eight.
+pub(crate) fn nap<R: Clock>(rt: &R, began: &Instant, looks: u32) -> io::Result<bool> {
+    if looks < EAGER_LOOKS {
+        return Ok(true);
+    }
     thread::sleep(rt, Duration::from_micros(1));
     Ok(began.elapsed(rt)? < Duration::from_micros(900))
 }
@@ -68,13 +75,13 @@ pub(crate) fn send<R: Clock>(
     port: u16,
 ) -> io::Result<()> {
     let began = Instant::now(rt)?;
-    for _ in 0..MOST_NAPS {
+    for looks in 0..MOST_LOOKS {
         match socket.send_to(bytes, SocketAddrV4::new(Ipv4Addr::from_bits(address), port)) {
             Ok(_) => return Ok(()),
             Err(why) if would_wait(&why) => {}
             Err(why) => return Err(why),
         }
-        if !nap(rt, &began)? {
+        if !nap(rt, &began, looks)? {
             break;
         }
     }

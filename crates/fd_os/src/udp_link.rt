@@ -4,7 +4,7 @@ ghost use Rattle.std.specs.Prelude.{◌≡◌, ◌≤◌, None, IfOk};
 ghost use Rattle.fd_site.specs.Trace.{IsPolled};
 
 use crate::fault::counted;
-use crate::udp::{MOST_NAPS, bound, look, nap, not_open, send};
+use crate::udp::{MOST_LOOKS, bound, look, nap, not_open, send};
 use fd_site::{Failed, Link, Polled};
 use std::collections::VecDeque;
 use std::io;
@@ -20,6 +20,9 @@ const MOST_UNANSWERED: u32 = 16;
 
 /// How many datagrams are kept at most that came before a poll.
 const MOST_HEARD: usize = 64;
+
+/// How many waits a datagram is expected to be heard of. A server that another program keeps from running answers later.
+const PATIENCE: u32 = 8;
 
 /// A server by UDP. Datagrams of another address are taken for silence, and a poll waits less than a millisecond.
 #[derive(Drop)]
@@ -96,24 +99,33 @@ impl Line {
     // Waits for a datagram of the server.
     fn wait<R: Clock>(&mut self, rt: &R) -> io::Result<Option<Heard>> {
         let began = Instant::now(rt)?;
-        for _ in 0..MOST_NAPS {
+        for looks in 0..MOST_LOOKS {
             if let Some(heard) = self.look()? {
                 return Ok(Some(heard));
             }
-            if !nap(rt, &began)? {
+            if !nap(rt, &began, looks)? {
                 break;
             }
         }
         Ok(None)
     }
 
-    // Sends a datagram, once few enough are unanswered. One that nothing is heard of for a wait is given up.
+    // Waits until one of the datagrams that were sent is heard of, or gives one up.
+    fn make_room<R: Clock>(&mut self, rt: &R) -> io::Result<()> {
+        for _ in 0..PATIENCE {
+            if let Some(heard) = self.wait(rt)? {
+                self.heard.push_back(heard)?;
+                return Ok(());
+            }
+        }
+        self.unanswered = self.unanswered.saturating_sub(1);
+        Ok(())
+    }
+
+    // Sends a datagram, once few enough are unanswered.
     fn send<R: Clock>(&mut self, rt: &R, port: u16, bytes: &[u8]) -> io::Result<()> {
         if self.unanswered >= MOST_UNANSWERED && self.heard.len() < MOST_HEARD {
-            match self.wait(rt)? {
-                Some(heard) => self.heard.push_back(heard)?,
-                None => self.unanswered = self.unanswered.saturating_sub(1),
-            }
+            self.make_room(rt)?;
         }
         send(rt, &self.socket, bytes, self.server, port)?;
         self.unanswered = self.unanswered.saturating_add(1);

@@ -3,8 +3,8 @@
 ghost use Rattle.std.specs.Prelude.{◌≡◌, ◌≤◌, None, IfOk};
 ghost use Rattle.fd_site.specs.Trace.{IsTaken};
 
-use crate::fault::counted;
-use crate::udp::{MOST_NAPS, bound, look, nap, not_open, send};
+use crate::fault::{counted, lost};
+use crate::udp::{MOST_LOOKS, bound, look, nap, not_open, send};
 use fd_site::{Failed, Peer, Ports, Taken};
 use std::io;
 use std::io::{Error, ErrorKind};
@@ -16,12 +16,14 @@ use std::time::Instant;
 const HERALD_PORT: u16 = 20023;
 
 /// The ports of a server by UDP: the herald's, and one that is free for each slot. One look waits less than a millisecond
-/// for all of them, and each has its turn.
+/// for all of them, and each has its turn. An answer that the system can't send, as to a peer that can't be reached, is
+/// lost as any datagram may be, and the server goes on: a forged sender doesn't end it. The first is said.
 #[derive(Drop)]
 pub struct UdpPorts<'a, R: Net + Clock + Eprint + AllocGlobal> {
     rt: &'a R,
     herald: u16,
     sockets: Option<Sockets>,
+    lost: u64,
     faults: u64,
 }
 
@@ -41,6 +43,7 @@ impl<'a, R: Net + Clock + Eprint + AllocGlobal> UdpPorts<'a, R> {
             rt,
             herald,
             sockets: None,
+            lost: 0,
             faults: 0,
         }
     }
@@ -135,24 +138,16 @@ impl Sockets {
         ensures { IfOk result IsTaken }
     {
         let began = Instant::now(rt)?;
-        for _ in 0..MOST_NAPS {
+        for looks in 0..MOST_LOOKS {
             let taken = self.look(out)?;
             if !matches!(taken, Taken::Silent) {
                 return Ok(taken);
             }
-            if !nap(rt, &began)? {
+            if !nap(rt, &began, looks)? {
                 break;
             }
         }
         Ok(Taken::Silent)
-    }
-
-    // Answers a peer from the port of a slot.
-    fn answer<R: Clock>(&self, rt: &R, slot: u16, peer: Peer, bytes: &[u8; 4]) -> io::Result<()> {
-        match self.of_slot(slot) {
-            Some(socket) => send(rt, socket, bytes, peer.address, peer.port),
-            None => Err(not_open()),
-        }
     }
 }
 
@@ -184,10 +179,17 @@ impl<R: Net + Clock + Eprint + AllocGlobal> Ports for UdpPorts<'_, R> {
     }
 
     fn answer(&mut self, slot: u16, peer: Peer, bytes: &[u8; 4]) -> Result<(), Failed> {
-        let answered = match &self.sockets {
-            Some(sockets) => sockets.answer(self.rt, slot, peer, bytes),
-            None => Err(not_open()),
+        let socket = match &self.sockets {
+            Some(sockets) => sockets.of_slot(slot),
+            None => None,
         };
-        counted(self.rt, "netdump client", &mut self.faults, answered)
+        match socket {
+            Some(socket) => {
+                let sent = send(self.rt, socket, bytes, peer.address, peer.port);
+                lost(self.rt, "netdump client", &mut self.lost, sent);
+                Ok(())
+            }
+            None => counted(self.rt, "netdump client", &mut self.faults, Err(not_open())),
+        }
     }
 }

@@ -4,7 +4,7 @@
 use crate::dumps::{refuses, with_image};
 use crate::image_files::riscv_image;
 use crate::partitions::check;
-use crate::reads::{refuses_cut, riscv_vmcore, with_vmcore};
+use crate::reads::{reads_one_byte, refuses_cut, riscv_vmcore};
 use std::alloc::Global;
 use std::process::Abort;
 use std::test::Fail;
@@ -23,8 +23,10 @@ fn an_image_that_is_cut_anywhere_is_refused_at_its_end(rt: HostRuntime) -> Resul
     // The fields, the segment, the pair, the wanted pages, the four texts, the segment's bytes.
     for length in [
         0, 111, 112, 127, 128, 143, 144, 167, 168, 169, 170, 179, 180, 183, 184, 195, 196, 24771,
-    ] {
-        is_cut(&rt, alloc, length)?;
+    ]
+    .as_slice()
+    {
+        is_cut(&rt, alloc, *length)?;
     }
     Ok(())
 }
@@ -51,12 +53,17 @@ fn with_greatest(
     check(rt, alloc, &mut site, &["dump", "a.img"], status, line)
 }
 
+// Such a field of four bytes is named by its place.
+fn is_no_image_with_greatest(rt: &impl Abort, alloc: Global, at: usize) -> Result<(), Fail> {
+    let line = format!(in alloc; "refused 42: not an image at {at}\n")?;
+    with_greatest(rt, alloc, (at, 4), 65, line.as_str())
+}
+
 #[test]
 fn each_field_of_an_image_has_its_refusal(rt: HostRuntime) -> Result<(), Fail> {
     let alloc = rt.alloc();
-    for at in [16, 20, 24, 28, 32, 36, 40, 44, 48, 52] {
-        let line = format!(in alloc; "refused 42: not an image at {at}\n")?;
-        with_greatest(&rt, alloc, (at, 4), 65, line.as_str())?;
+    for at in [16, 20, 24, 28, 32, 36, 40, 44, 48, 52].as_slice() {
+        is_no_image_with_greatest(&rt, alloc, *at)?;
     }
     for (at, status, line) in [
         (56, 65, "refused 43: rule 10 at 0\n"),
@@ -73,28 +80,28 @@ fn each_field_of_an_image_has_its_refusal(rt: HostRuntime) -> Result<(), Fail> {
         (144, 65, "refused 43: rule 9 at 0\n"),
         (152, 65, "refused 43: rule 9 at 1\n"),
         (160, 65, "refused 43: rule 9 at 2\n"),
-    ] {
-        with_greatest(&rt, alloc, (at, 8), status, line)?;
+    ]
+    .as_slice()
+    {
+        with_greatest(&rt, alloc, (*at, 8), *status, *line)?;
     }
     Ok(())
+}
+
+// The header page; then the messages, the ranges, the bitmap and the directory; then the pages.
+fn is_short_anywhere(rt: &impl Abort, alloc: Global, vmcore: &[u8]) -> Result<(), Fail> {
+    let in_header = [0, 1, 4094, 4095];
+    each_length_is_short(rt, alloc, vmcore, 4096, &in_header)?;
+    let in_sections = [4096, 8191, 8192, 12287, 12288, 16383, 16384, 20479];
+    each_length_is_short(rt, alloc, vmcore, 20480, &in_sections)?;
+    let in_pages = [20480, 24575, 24576, 28671, 28672, 32767];
+    each_length_is_short(rt, alloc, vmcore, 32768, &in_pages)
 }
 
 #[test]
 fn a_vmcore_that_is_cut_anywhere_is_short(rt: HostRuntime) -> Result<(), Fail> {
     let alloc = rt.alloc();
-    let vmcore = riscv_vmcore(&rt, alloc)?;
-    // The header page; then the messages, the ranges, the bitmap and the directory; then the pages.
-    for (need, lengths) in [
-        (4096, [0, 1, 4094, 4095].as_slice()),
-        (
-            20480,
-            [4096, 8191, 8192, 12287, 12288, 16383, 16384, 20479].as_slice(),
-        ),
-        (32768, [20480, 24575, 24576, 28671, 28672, 32767].as_slice()),
-    ] {
-        each_length_is_short(&rt, alloc, &vmcore, need, lengths)?;
-    }
-    Ok(())
+    is_short_anywhere(&rt, alloc, &riscv_vmcore(&rt, alloc)?)
 }
 
 fn each_length_is_short(
@@ -123,15 +130,10 @@ fn reads_with_greatest(
     let (at, count) = field;
     let mut changed = vmcore.to_vec(alloc)?;
     fill(&mut changed, at, count);
-    let mut site = with_vmcore(alloc, changed)?;
-    let words = ["read", "vmcore.0", "0xffffffd000001000", "1"];
-    check(rt, alloc, &mut site, &words, status, line)
+    reads_one_byte(rt, alloc, changed, status, line)
 }
 
-#[test]
-fn each_field_of_a_vmcore_has_its_answer(rt: HostRuntime) -> Result<(), Fail> {
-    let alloc = rt.alloc();
-    let vmcore = riscv_vmcore(&rt, alloc)?;
+fn each_field_has_its_answer(rt: &impl Abort, alloc: Global, vmcore: &[u8]) -> Result<(), Fail> {
     for (at, count, status, line) in [
         (24, 4, 65, "refused 47: minidump version 4294967295\n"),
         (28, 4, 65, "refused 50: short, needs 4294983680 of 32768\n"),
@@ -146,8 +148,16 @@ fn each_field_of_a_vmcore_has_its_answer(rt: HostRuntime) -> Result<(), Fail> {
         (8200, 8, 0, "ffffffd000001000 00\n"),
         (8208, 8, 0, "ffffffd000001000 00\n"),
         (8216, 8, 65, "refused 51: range 1\n"),
-    ] {
-        reads_with_greatest(&rt, alloc, &vmcore, (at, count), status, line)?;
+    ]
+    .as_slice()
+    {
+        reads_with_greatest(rt, alloc, vmcore, (*at, *count), *status, *line)?;
     }
     Ok(())
+}
+
+#[test]
+fn each_field_of_a_vmcore_has_its_answer(rt: HostRuntime) -> Result<(), Fail> {
+    let alloc = rt.alloc();
+    each_field_has_its_answer(&rt, alloc, &riscv_vmcore(&rt, alloc)?)
 }

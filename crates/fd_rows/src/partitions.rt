@@ -44,6 +44,14 @@ pub(crate) fn failing_partition(
     MemSite::new(alloc, size, block, fails)
 }
 
+// A zero partition with blocks of 512, of which one call fails.
+pub(crate) fn failing_once(alloc: Global, size: u64, failing: u64) -> Result<MemSite, AllocError>
+    ensures fresh { IfOk result (λ site. site.disk.journal ≡ []) }
+    ensures size { IfOk result (λ site. length site.disk.base_part ≡ size) }
+{
+    failing_partition(alloc, size, 512, vec![in alloc; failing]?)
+}
+
 // A zero partition.
 pub(crate) fn partition(alloc: Global, size: u64, block: u32) -> Result<MemSite, AllocError>
     ensures fresh { IfOk result (λ site. site.disk.journal ≡ []) }
@@ -71,6 +79,25 @@ pub(crate) fn words_of(alloc: Global, words: &[&str]) -> Result<Vec<Word>, Fail>
     Ok(list)
 }
 
+// Runs the words over the site without a network, and gives the status.
+pub(crate) fn run<S: Site>(alloc: Global, words: &[Word], site: &mut S, out: &mut MemSink) -> u8 {
+    let (mut link, mut ports) = (NoNet::new(), NoNet::new());
+    crashway(alloc, words, site, &mut link, &mut ports, out)
+}
+
+fn ends<S: Site>(
+    rt: &impl Abort,
+    alloc: Global,
+    site: &mut S,
+    words: &[Word],
+    status: u8,
+    text: &str,
+) {
+    let mut out = MemSink::new(alloc, Vec::new(alloc));
+    assert_eq!(rt; run(alloc, words, site, &mut out), status, "{text}");
+    assert_eq!(rt; out.bytes(), text.as_bytes(), "{text}");
+}
+
 // Runs the words over the site, and compares the status and the text.
 pub(crate) fn check<S: Site>(
     rt: &impl Abort,
@@ -81,11 +108,7 @@ pub(crate) fn check<S: Site>(
     text: &str,
 ) -> Result<(), Fail> {
     let list = words_of(alloc, words)?;
-    let mut out = MemSink::new(alloc, Vec::new(alloc));
-    let (mut link, mut ports) = (NoNet::new(), NoNet::new());
-    let ended = crashway(alloc, &list, site, &mut link, &mut ports, &mut out);
-    assert_eq!(rt; ended, status, "{text}");
-    assert_eq!(rt; out.bytes(), text.as_bytes(), "{text}");
+    ends(rt, alloc, site, &list, status, text);
     Ok(())
 }
 

@@ -7,14 +7,19 @@ use std::alloc::Global;
 use std::process::Abort;
 use std::test::Fail;
 
-// The minidump of the image with four levels, in which all six pages are mapped.
-fn sv48_vmcore(rt: &impl Abort, alloc: Global) -> Result<Vec<u8>, Fail> {
-    let vmcore = minidump(rt, alloc, sv48_image(alloc)?, 85504, 45056)?;
+// Some bytes of the minidump of the image with four levels.
+fn is_of_sv48(rt: &impl Abort, vmcore: &[u8]) {
     assert_eq!(rt; vmcore.len(), 45056);
     assert_eq!(rt;
         &vmcore[16384..16400],
         b"\xcf\0\0\x20\0\0\0\0\xcf\x04\0\x20\0\0\0\0".as_slice()
     );
+}
+
+// The minidump of the image with four levels, in which all six pages are mapped.
+fn sv48_vmcore(rt: &impl Abort, alloc: Global) -> Result<Vec<u8>, Fail> {
+    let vmcore = minidump(rt, alloc, sv48_image(alloc)?, 85504, 45056)?;
+    is_of_sv48(rt, &vmcore);
     Ok(vmcore)
 }
 
@@ -54,17 +59,23 @@ fn answers(
     reads(rt, alloc, &mut site, &[case])
 }
 
+// The header page and the messages, the bitmap and the pages.
+fn put_first(first: &mut [u8], vmcore: &[u8]) -> Result<(), Fail> {
+    let front = vmcore.get(..8192).ok_or("a front")?;
+    let pages = vmcore.get(20480..).ok_or("dumped pages")?;
+    put_at(first, 0, front);
+    put_at(first, 24, &1_u32.to_le_bytes());
+    put_at(first, 32, &69632_u32.to_le_bytes());
+    put_at(first, 8192 + 65536, &[0x16]);
+    put_at(first, 81920, pages);
+    Ok(())
+}
+
 // The minidump of riscv's image as version 1 has it: without ranges, and with a bit for each page of memory.
 fn first_riscv(rt: &impl Abort, alloc: Global, length: usize) -> Result<Vec<u8>, Fail> {
     let vmcore = riscv_vmcore(rt, alloc)?;
-    let front = vmcore.as_slice().get(..8192).ok_or("a front")?;
-    let pages = vmcore.as_slice().get(20480..).ok_or("dumped pages")?;
     let mut first = vec![in alloc; 0u8; length]?;
-    put_at(&mut first, 0, front);
-    put_at(&mut first, 24, &1_u32.to_le_bytes());
-    put_at(&mut first, 32, &69632_u32.to_le_bytes());
-    put_at(&mut first, 8192 + 65536, &[0x16]);
-    put_at(&mut first, 81920, pages);
+    put_first(&mut first, &vmcore)?;
     Ok(first)
 }
 
@@ -84,17 +95,22 @@ fn a_file_of_the_first_version_may_be_short(rt: HostRuntime) -> Result<(), Fail>
     answers(&rt, alloc, first_riscv(&rt, alloc, 94207)?, case)
 }
 
+// A header page, a bit, an entry and a page.
+fn put_older(file: &mut [u8], version: u8) {
+    put_at(file, 0, b"minidump FreeBSD/amd64");
+    put_at(file, 24, &[version]);
+    put_at(file, 32, &4096_u32.to_le_bytes());
+    put_at(file, 36, &4096_u32.to_le_bytes());
+    put_at(file, 40, &0xfffffe0000000000_u64.to_le_bytes());
+    put_at(file, 4096, &[2]);
+    put_at(file, 8216, &0x1003_u64.to_le_bytes());
+    put_at(file, 12304, &[0xab, 0xcd]);
+}
+
 // A minidump of amd64 of an older version, whose directory has at its fourth place an entry of a page.
 fn older_amd64(alloc: Global, version: u8) -> Result<Vec<u8>, Fail> {
     let mut file = vec![in alloc; 0u8; 16384]?;
-    put_at(&mut file, 0, b"minidump FreeBSD/amd64");
-    put_at(&mut file, 24, &[version]);
-    put_at(&mut file, 32, &4096_u32.to_le_bytes());
-    put_at(&mut file, 36, &4096_u32.to_le_bytes());
-    put_at(&mut file, 40, &0xfffffe0000000000_u64.to_le_bytes());
-    put_at(&mut file, 4096, &[2]);
-    put_at(&mut file, 8216, &0x1003_u64.to_le_bytes());
-    put_at(&mut file, 12304, &[0xab, 0xcd]);
+    put_older(&mut file, version);
     Ok(file)
 }
 

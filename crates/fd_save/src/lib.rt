@@ -13,8 +13,6 @@ pub mod laws;
 mod number;
 mod saved;
 mod saving;
-#[cfg(test)]
-mod tests;
 
 pub use clearing::{clear, clear_only};
 pub use fault::SaveFault;

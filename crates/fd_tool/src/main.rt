@@ -12,13 +12,14 @@ ghost use Rattle.fd_cli.specs.Row.{Reach, outside};
 ghost use Rattle.fd_cli.specs.Rows.{no_command_row, row_of};
 
 use fd_cli::{Invocation, Refusal, crashway, read_invocation, status};
-use fd_os::{DirSite, StdSink, hold_standard, say};
-use fd_site::{Link, NoNet, Ports, Sink, Site};
+use fd_os::{DirSite, StdSink, UdpLink, UdpPorts, hold_standard, say};
+use fd_site::{Link, Ports, Sink, Site};
 use std::alloc::Global;
 use std::fs::File;
 use std::io::ErrorKind;
+use std::net::Net;
 use std::process::ExitCode;
-use std::rt::{Env, Files};
+use std::rt::{Clock, Env, Files};
 use std::{env, io};
 
 // What the program's words name. Words of which one isn't UTF-8 name nothing.
@@ -78,7 +79,7 @@ fn work<S: Site, L: Link, P: Ports, O: Sink>(
 }
 
 // The same over the invocation's directory.
-fn work_in_directory<R: Files<File = File> + Eprint + AllocGlobal, O: Sink>(
+fn work_in_directory<R: Files<File = File> + Net + Clock + Eprint + AllocGlobal, O: Sink>(
     rt: &R,
     invocation: &Invocation,
     out: &mut O,
@@ -87,8 +88,8 @@ fn work_in_directory<R: Files<File = File> + Eprint + AllocGlobal, O: Sink>(
         Ok(site) => site,
         Err(why) => return early_status(rt, "dumpdev", why),
     };
-    let mut link = NoNet::new();
-    let mut ports = NoNet::new();
+    let mut link = UdpLink::new(rt);
+    let mut ports = UdpPorts::new(rt);
     work(
         rt.alloc(),
         invocation,
@@ -99,7 +100,7 @@ fn work_in_directory<R: Files<File = File> + Eprint + AllocGlobal, O: Sink>(
     )
 }
 
-fn run<R: Env + Files<File = File> + Print + Eprint + AllocGlobal>(rt: &R) -> u8 {
+fn run<R: Env + Files<File = File> + Net + Clock + Print + Eprint + AllocGlobal>(rt: &R) -> u8 {
     if let Err(why) = hold_standard(rt) {
         return early_status(rt, "/dev/null", why);
     }

@@ -5,8 +5,6 @@
 mod open;
 mod parts;
 mod sections;
-#[cfg(test)]
-mod tests;
 
 pub use open::OpenFault;
 pub use sections::Core;

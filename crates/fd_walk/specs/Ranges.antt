@@ -47,5 +47,6 @@ pub record IsRest (t : PageTables) (lowest : ℕ) (rest : Rest) : Type 0 where
   pub most_levels : t.levels ≤ 4
   pub within : rest.at + rest.left ≤ 2 ^ 64
   pub table : IsInTable t rest.at rest.place.height rest.place.table
+  pub table_aligned : rest.place.table % 4096 ≡ 0
   pub low : lowest ≤ rest.place.height
   pub room : rest.place.table + 4096 ≤ 2 ^ 64

@@ -56,7 +56,8 @@ impl<E: Entry, const LEVELS: usize> Walker<E, LEVELS> {
     {
         if reached.height == E::DIRECTORY_HEIGHT {
             let place = reached.table + 8 * index_at(va, E::DIRECTORY_HEIGHT);
-            return mem.word(place).unwrap_or(0);
+            let mut near = reached.near;
+            return mem.word_near(place, &mut near).unwrap_or(0);
         }
         match Self::leaf(reached.entry, reached.height) {
             Some(leaf) => {

@@ -78,6 +78,7 @@ impl<E: Entry, const LEVELS: usize> Walker<E, LEVELS> {
     }
 
     // The leaf of a range's first entry.
+    #[inline(always)]
     fn first_leaf<M: Memory>(mem: &M, root: u64, rest: Rest) -> First<Leaf>
         requires rest { IsRest (tables_of (M.word_at mem.now) E.kind_of LEVELS root) 0 rest }
         requires some { 0 < rest.left }

@@ -47,6 +47,7 @@ impl<E: Entry, const LEVELS: usize> Walker<E, LEVELS> {
 
     /// Takes from a range the addresses that share the entry at which the walk for its first ends: the one of height
     /// `lowest`, or the first above it that names no table.
+    #[inline(always)]
     pub(crate) fn part<M: Memory>(mem: &M, root: u64, rest: Rest, lowest: u32) -> Part
         requires rest { IsRest (tables_of (M.word_at mem.now) E.kind_of LEVELS root) lowest rest }
         requires low { lowest ≤ 1 }
@@ -68,6 +69,7 @@ impl<E: Entry, const LEVELS: usize> Walker<E, LEVELS> {
         let place = Place {
             height: reached.height,
             table: reached.table,
+            near: reached.near,
         };
         Part {
             height: reached.height,
@@ -112,6 +114,7 @@ impl<E: Entry, const LEVELS: usize> Walker<E, LEVELS> {
     fn past_absent_entries<M: Memory>(mem: &M, place: Place, first: u64) -> u64
         requires first { first < 512 }
         requires high { place.height ≤ 3 }
+        requires aligned { place.table % 4096 ≡ 0 }
         requires room { place.table + 4096 ≤ 2 ^ 64 }
         ensures from_ { first ≤ result }
         ensures to { result ≤ 512 }
@@ -119,9 +122,12 @@ impl<E: Entry, const LEVELS: usize> Walker<E, LEVELS> {
             → kind_of_entry E.kind_of place.height (M.word_at mem.now (place.table + 8 * k)) ≡ Kind.Absent }
     {
         let mut index = first;
+        let mut near = place.near;
         while index < 512 {
-            match Self::kind(mem.word(place.table + 8 * index), place.height) {
-                Kind::Absent => index += 1,
+            let at = place.table + 8 * index;
+            match Self::kind(mem.word_near(at, &mut near), place.height) {
+                // What is like an absent entry is absent.
+                Kind::Absent => index += mem.alike(at, 512 - index, &mut near),
                 _ => return index,
             }
         }
@@ -130,6 +136,7 @@ impl<E: Entry, const LEVELS: usize> Walker<E, LEVELS> {
 
     /// The table in which the walk for a later address goes on: the one of an address before, if both are under one
     /// entry of the height above, or else the topmost.
+    #[inline(always)]
     fn place_after(root: u64, place: Place, before: u64, later: u64) -> Place
         requires high { place.height ≤ 3 }
         requires some_levels { 2 ≤ LEVELS }

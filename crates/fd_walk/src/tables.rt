@@ -77,6 +77,7 @@ impl<E: Entry, const LEVELS: usize> Walker<E, LEVELS> {
     }
 
     // The table that a range's first entry of height 1 or above names.
+    #[inline(always)]
     fn first_table<M: Memory>(mem: &M, root: u64, rest: Rest) -> First<u64>
         requires rest { IsRest (tables_of (M.word_at mem.now) E.kind_of LEVELS root) 1 rest }
         requires some { 0 < rest.left }

@@ -26,7 +26,7 @@ impl Memory for FourTables {
         else if nat_le 0x60000000 pa && nat_lt pa 0x60001000 then Some pa
         else None };
 
-    fn word(&self, pa: u64) -> Option<u64> {
+    fn word_near(&self, pa: u64, _near: &mut usize) -> Option<u64> {
         match pa {
             0x10_0fe0 => Some(0x10_1003),
             0x10_1000 => Some(0x4000_0083),
@@ -59,7 +59,7 @@ struct OneWord {
 impl Memory for OneWord {
     ghost word_at = { λ m pa. if pa == m.place then Some m.bits else None };
 
-    fn word(&self, pa: u64) -> Option<u64> {
+    fn word_near(&self, pa: u64, _near: &mut usize) -> Option<u64> {
         if pa == self.place {
             Some(self.bits)
         } else {

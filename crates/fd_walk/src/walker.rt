@@ -20,18 +20,20 @@ pub struct Walker<E: Entry, const LEVELS: usize> {
     entry: PhantomData<E>,
 }
 
-/// A table that a walk comes to, and the height of its entries.
+/// A table that a walk comes to, the height of its entries, and where in memory its words are looked for first.
 #[derive(Clone, Copy)]
 pub(crate) struct Place {
     pub(crate) height: u32,
     pub(crate) table: u64,
+    pub(crate) near: usize,
 }
 
-/// The lowest entry that a walk came to, with the table that holds it.
+/// The lowest entry that a walk came to, with the table that holds it, and where in memory that was found.
 #[derive(Clone, Copy)]
 pub(crate) struct Reached {
     pub(crate) height: u32,
     pub(crate) table: u64,
+    pub(crate) near: usize,
     pub(crate) entry: Option<u64>,
 }
 
@@ -89,33 +91,39 @@ impl<E: Entry, const LEVELS: usize> Walker<E, LEVELS> {
         Place {
             height: LEVELS as u32 - 1,
             table: root,
+            near: 0,
         }
     }
 
     /// Walks on from a table that the walk for an address comes to.
+    #[inline(always)]
     pub(crate) fn descend_from<M: Memory>(mem: &M, place: Place, va: u64, lowest: u32) -> Reached
         requires low { lowest ≤ place.height }
         requires high { place.height ≤ 3 }
+        requires aligned { place.table % 4096 ≡ 0 }
         requires room { place.table + 4096 ≤ 2 ^ 64 }
         ensures reached { (root : ℕ) → let tables = tables_of (M.word_at mem.now) E.kind_of LEVELS root in
             IsInTable tables va place.height place.table → IsReached tables lowest va result.height result.table result.entry }
         ensures high { result.height ≤ 3 }
+        ensures aligned { result.table % 4096 ≡ 0 }
         ensures room { result.table + 4096 ≤ 2 ^ 64 }
     {
         let mut height = place.height;
         let mut table = place.table;
-        let mut entry = mem.word(table + 8 * index_at(va, height));
+        let mut near = place.near;
+        let mut entry = mem.word_near(table + 8 * index_at(va, height), &mut near);
         while height > lowest {
             match Self::kind(entry, height) {
                 Kind::Table(below) => {
                     table = below;
                     height -= 1;
-                    entry = mem.word(table + 8 * index_at(va, height));
+                    entry = mem.word_near(table + 8 * index_at(va, height), &mut near);
                 }
                 _ => {
                     return Reached {
                         height,
                         table,
+                        near,
                         entry,
                     };
                 }
@@ -124,6 +132,7 @@ impl<E: Entry, const LEVELS: usize> Walker<E, LEVELS> {
         Reached {
             height,
             table,
+            near,
             entry,
         }
     }

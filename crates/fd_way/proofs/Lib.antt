@@ -3,6 +3,10 @@ mod BitmapBits
 mod ClearWays
 mod Decided
 mod Digits
+mod Errors
+mod FileText
+mod FirstSectors
+mod ImageWalks
 mod ImageWords
 mod LastSectors
 mod Limits
@@ -11,13 +15,11 @@ mod Located
 mod Opening
 mod OverClear
 mod PageStarts
+mod PagesPrinted
 mod Pieces
-mod Errors
-mod FileText
-mod FirstSectors
 mod Printing
-mod Savecores
 pub mod SameReads
+mod Savecores
 mod TableEntries
 mod Translated
 mod Units

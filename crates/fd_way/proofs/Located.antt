@@ -104,14 +104,14 @@ module _ (m : MachineImage) (valid : IsValid m) where
   }
 
   -- a page that has a bit
-  record HasBit (pa bit : ℕ) : Type 0 where
-    within : bit < length (pages_with_bits m)
-    address : get_or (pages_with_bits m) bit 0 ≡ page_start pa
-    is_set : has_bit (dumped_bits m ++ clear_bits m) bit ≡ is_dumped m (page_start pa)
-    below : take bit (dumped_bits m ++ clear_bits m) ≡ take bit (dumped_bits m)
-    offset : page_offset (sections_of m) pa ≡ offset_of_bit (sections_of m) bit
+  pub record HasBit (pa bit : ℕ) : Type 0 where
+    pub within : bit < length (pages_with_bits m)
+    pub address : get_or (pages_with_bits m) bit 0 ≡ page_start pa
+    pub is_set : has_bit (dumped_bits m ++ clear_bits m) bit ≡ is_dumped m (page_start pa)
+    pub below : take bit (dumped_bits m ++ clear_bits m) ≡ take bit (dumped_bits m)
+    pub offset : page_offset (sections_of m) pa ≡ offset_of_bit (sections_of m) bit
 
-  with_bit : (pa bit : ℕ) → bit_of (pages_of m.avail) pa ≡ Some bit → HasBit pa bit
+  pub with_bit : (pa bit : ℕ) → bit_of (pages_of m.avail) pa ≡ Some bit → HasBit pa bit
   with_bit pa bit some =
       let found = position-Some (λ (page : ℕ). page == pa / 4096) (pages_of m.avail) bit 0 some in
       let number : get_or (pages_of m.avail) bit 0 ≡ pa / 4096 = eqb-true (get_or (pages_of m.avail) bit 0) (pa / 4096) found.1 in

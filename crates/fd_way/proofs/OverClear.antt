@@ -136,7 +136,7 @@ module _ (law : ReadingLaw) (d : Drill) (found : Seen) (c : Contents) (told : fo
 pub not_clear : (law : ReadingLaw) (d : Drill) (old new : Seen) (was now : Watched ℕ) (result : Result Drilled WayFault) (fault : OpenFault) → IsValid d.image
     → IsTrue (is_good old.size old.block) → Told old.told (λ c. length (part_of c) ≡ old.size) → Drills d old new was now result → result ≡ Err (way.Unread fault)
     → Told old.told (λ c. IsClear (part_of c) old.block → ⊥)
-not_clear law d old new was now result fault valid good sized drills is c told clear = by_answer (subst (Drills d old new was now) is drills).1
+not_clear law d old new was now result fault valid good sized drills is c told clear = by_answer (subst (Drills d old new was now) is drills)
   where
     by_outcome : (outcome : Outcome) (added : List Entry) → Does d old outcome added → Err (way.Unread fault) ≡ drill_answer outcome → ⊥
     by_outcome (Refused why) added does same = cc

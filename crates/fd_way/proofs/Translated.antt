@@ -1,5 +1,6 @@
--- The page directory of a minidump translates the addresses of the kernel window as the image's tables do.
-use Rattle.std.proofs.Common.{◌≡◌, ℕ, ◌+◌, ◌-◌, ◌*◌, ◌/◌, ◌%◌, ◌<◌, ◌≤◌, ◌^◌, Bool, true, false, not, ◌&&◌, List, get_or, Option, Some, None, Ok, Err, refl, sym, ◌∙◌, ap, subst, arith, inl, inr, lit<}
+-- The page directory of a minidump translates the addresses of the kernel window as the image's tables do, and allows what they
+-- allow.
+use Rattle.std.proofs.Common.{◌≡◌, ℕ, ◌+◌, ◌-◌, ◌*◌, ◌/◌, ◌%◌, ◌<◌, ◌≤◌, ◌^◌, Bool, true, false, not, ◌&&◌, List, get_or, Option, Some, None, Result, Ok, Err, refl, sym, ◌∙◌, ap, subst, arith, inl, inr, lit<}
 use Rattle.std.specs.Prelude.{if◌then◌else◌}
 use Rattle.std.specs.Int.{w64, to_le_bytes}
 use Rattle.std.specs.List.{range_with_len}
@@ -25,14 +26,17 @@ use Rattle.fd_walk.proofs.TablePath.{word_under, entry_at-below}
 use Rattle.fd_walk.proofs.Ways.{no_table}
 use Rattle.fd_mini.specs.Places.{places_of}
 use Rattle.fd_mini.specs.declared.header.MiniHeader.{MiniHeader}
-use Rattle.fd_mini.specs.declared.address_fault.AddressFault.TheVariants.{TableMissing}
+use Rattle.fd_mini.specs.declared.address_fault.AddressFault.{AddressFault}
+use Rattle.fd_mini.specs.declared.address_fault.AddressFault.TheVariants.{NotMapped, TableMissing}
 use Rattle.fd_vmcore.specs.Sections.{Sections, page_offset}
 use Rattle.fd_kvm.specs.Place as kvm
 use Rattle.fd_kvm.specs.Place.{by_table_entry, table_entry, by_table, by_entry, by_directory}
+use Rattle.fd_kvm.specs.Walk.{entry_by_kind, entry_by_table, last_entry, protection_of}
 use Rattle.fd_dump.specs.Dumped.{tables_in, dumps_last_tables, is_dumped}
 use Rattle.fd_dump.specs.Minidump.{form_of, entry_count, directory_of, mini_header_of, minidump_of}
 use Rattle.fd_dump.specs.Translation.{by_leaf, is_table_missing, by_tables}
 use Rattle.fd_dump.proofs.Stands.{Stands, Stands-inner}
+use Rattle.fd_way.specs.ImageWalk.{leaf_protection}
 use Rattle.fd_way.proofs.ImageWords.{word_short, word_of-page}
 use Rattle.fd_way.proofs.Limits.{windows_of}
 use Rattle.fd_way.proofs.Located.{IsDumpedAt, IsNotDumped, located}
@@ -58,6 +62,16 @@ by_lowest : (va bits : ℕ) (kind : Kind) → IsPlaced 0 kind → by_table_entry
 by_lowest va bits (Leaf address) placed = refl
 by_lowest va bits (Table table) placed = absurd (omega (arith, placed.0))
 by_lowest va bits Absent placed = refl
+
+-- an address that isn't mapped has no place
+never : {P : Type 0} (fault : AddressFault) (pa : ℕ) (answer : Result ℕ AddressFault) → answer ≡ Err fault → answer ≡ Ok pa → P
+never fault pa answer none some = absurd (let no_such : Err fault ≡ Ok pa = sym none ∙ some in cc)
+
+-- a leaf of the lowest height allows what its entry allows
+leaf_allows : (arch : Arch) (va bits pa : ℕ) (kind : Kind) → by_leaf va (leaf_of_kind 0 bits kind) ≡ Ok pa → protection_of arch bits ≡ leaf_protection arch (leaf_of_kind 0 bits kind)
+leaf_allows arch va bits pa (Leaf address) is = refl
+leaf_allows arch va bits pa (Table table) is = never (NotMapped va) pa (Err (NotMapped va)) refl is
+leaf_allows arch va bits pa Absent is = never (NotMapped va) pa (Err (NotMapped va)) refl is
 
 leaf_names_none : (address : ℕ) (kind : Kind) → kind ≡ Leaf address → ¬ IsTable kind
 leaf_names_none address kind is names = let no_such : Leaf address ≡ Table names.0 = sym is ∙ names.1 in cc
@@ -107,6 +121,10 @@ module _ (m : MachineImage) (valid : IsValid m) where
   none_missing : (va : ℕ) → ¬ IsTable (kind_at tables height va) → is_table_missing m (last_table tables va) ≡ false
   none_missing va names_none = none_missing-in m.arch refl va names_none
 
+  -- where the tables map an address, an entry allows what the leaf there allows
+  abbrev Allows : ℕ → ℕ → Type 0
+  Allows va entry = (pa : ℕ) → by_tables m va ≡ Ok pa → protection_of m.arch entry ≡ leaf_protection m.arch (leaf_at tables va)
+
   -- a last-level table that the directory's entry names
   module _ (va bits table : ℕ) (some : entry_at tables height va ≡ Some bits) (names : kind_of m.arch bits height ≡ Table table) (placed : IsPlaced height (Table table)) where
     one : (height ≡ 1) × (dumps_last_tables m.arch ≡ true)
@@ -121,12 +139,23 @@ module _ (m : MachineImage) (valid : IsValid m) where
     missing_is : is_table_missing m (last_table tables va) ≡ not (is_dumped m table)
     missing_is = ap (λ kind. is_table_missing m (table_of_kind kind)) kind_is ∙ ap (λ (b : Bool). b && not (is_dumped m table)) one.1
 
-    without_table : IsNotDumped m valid table → by_table file m.arch va (page_offset sections table) ≡ by_tables m va
-    without_table not_dumped =
+    -- it translates an address as the tables do, and allows what they allow
+    record AgreesBelow : Type 0 where
+      same : by_table file m.arch va (page_offset sections table) ≡ by_tables m va
+      allows : Allows va (entry_by_table file bits va (page_offset sections table))
+
+    missing_table : IsNotDumped m valid table → by_table file m.arch va (page_offset sections table) ≡ by_tables m va
+    missing_table not_dumped =
         ap (by_table file m.arch va) not_dumped.offset
         ∙ sym (ap (λ (missing : Bool). if missing then Err (TableMissing va) else by_leaf va (leaf_at tables va)) (missing_is ∙ ap not (ap (is_dumped m) (sym aligned) ∙ not_dumped.not_dumped)))
 
-    with_table : IsDumpedAt m valid table → by_table file m.arch va (page_offset sections table) ≡ by_tables m va
+    without_table : IsNotDumped m valid table → AgreesBelow
+    without_table not_dumped = record {
+      same = missing_table not_dumped;
+      allows = λ pa is. never (TableMissing va) pa (by_tables m va) (sym (missing_table not_dumped) ∙ ap (by_table file m.arch va) not_dumped.offset) is;
+    }
+
+    with_table : IsDumpedAt m valid table → AgreesBelow
     with_table dumped =
         let index : ℕ = va / 4096 % 512 in
         let within : index < 512 = omega arith in
@@ -139,38 +168,56 @@ module _ (m : MachineImage) (valid : IsValid m) where
         let levels : 0 < levels_of m = omega (arith, some_levels m) in
         let leaf : leaf_at tables va ≡ leaf_of_kind 0 word (kind_of m.arch word 0) = leaf_at-lowest tables 0 va word levels entry (λ h below. absurd (omega arith)) in
         let there : is_table_missing m (last_table tables va) ≡ false = missing_is ∙ ap not (ap (is_dumped m) (sym aligned) ∙ dumped.dumped) in
-        ap (by_table file m.arch va) dumped.offset
-        ∙ ap (λ n. by_table_entry va (kind_of m.arch n 0)) read
-        ∙ by_lowest va word (kind_of m.arch word 0) (placed_kind m.arch word 0 (short 0 va word levels entry) (omega arith))
-        ∙ sym (by_tables_is va (leaf_of_kind 0 word (kind_of m.arch word 0)) there leaf)
+        record {
+          same = ap (by_table file m.arch va) dumped.offset
+              ∙ ap (λ n. by_table_entry va (kind_of m.arch n 0)) read
+              ∙ by_lowest va word (kind_of m.arch word 0) (placed_kind m.arch word 0 (short 0 va word levels entry) (omega arith))
+              ∙ sym (by_tables_is va (leaf_of_kind 0 word (kind_of m.arch word 0)) there leaf);
+          allows = λ pa is.
+              ap (λ o. protection_of m.arch (entry_by_table file bits va o)) dumped.offset
+              ∙ ap (protection_of m.arch) read
+              ∙ leaf_allows m.arch va word pa (kind_of m.arch word 0) (sym (by_tables_is va (leaf_of_kind 0 word (kind_of m.arch word 0)) there leaf) ∙ is)
+              ∙ sym (ap (leaf_protection m.arch) leaf);
+        }
 
-    by_last_table : by_table file m.arch va (page_offset sections table) ≡ by_tables m va
+    by_last_table : AgreesBelow
     by_last_table = elim (located m valid table) [ inl dumped ↦ with_table dumped | inr not_dumped ↦ without_table not_dumped ]
 
   -- an entry of the directory fits its field and translates an address as the tables do
   record Agrees (va entry : ℕ) : Type 0 where
     fits : entry < 2 ^ 64
     same : by_entry file sections va (kind_of m.arch entry height) ≡ by_tables m va
+    allows : Allows va (entry_by_kind file sections entry va (kind_of m.arch entry height))
+
+  record AgreesAs (va entry : ℕ) (kind : Kind) : Type 0 where
+    same : by_entry file sections va kind ≡ by_tables m va
+    allows : Allows va (entry_by_kind file sections entry va kind)
 
   module _ (va : ℕ) (from : m.windows.kernbase ≤ va) where
     place : IsInUnit m.arch m.windows.kernbase va
     place = in_unit m.arch m.windows.kernbase va (windows_of m valid).kernbase from
 
     -- the tables have an entry of the directory's height
-    by_kind : (bits : ℕ) (kind : Kind) → entry_at tables height va ≡ Some bits → kind_of m.arch bits height ≡ kind → IsPlaced height kind → by_entry file sections va kind ≡ by_tables m va
+    by_kind : (bits : ℕ) (kind : Kind) → entry_at tables height va ≡ Some bits → kind_of m.arch bits height ≡ kind → IsPlaced height kind → AgreesAs va bits kind
     by_kind bits (Leaf address) some is placed =
         let kind_is : kind_at tables height va ≡ Leaf address = ap (λ entry. kind_of_entry (kind_of m.arch) height entry) some ∙ is in
         let leaf : leaf_at tables va ≡ Some (record { height = height; bits = bits; address = address }) =
         leaf_at-no_table tables height va bits (some_levels m) some (leaf_names_none address (kind_of m.arch bits height) is) ∙ ap (leaf_of_kind height bits) is in
-        leaf_is va address
-        ∙ ap (λ n. Ok (address + n)) place.inside
-        ∙ sym (by_tables_is va (Some (record { height = height; bits = bits; address = address })) (none_missing va (leaf_names_none address (kind_at tables height va) kind_is)) leaf)
-    by_kind bits (Table table) some is placed = by_last_table va bits table some is placed
+        record {
+          same = leaf_is va address
+              ∙ ap (λ n. Ok (address + n)) place.inside
+              ∙ sym (by_tables_is va (Some (record { height = height; bits = bits; address = address })) (none_missing va (leaf_names_none address (kind_at tables height va) kind_is)) leaf);
+          allows = λ pa ok. sym (ap (leaf_protection m.arch) leaf);
+        }
+    by_kind bits (Table table) some is placed =
+        let below = by_last_table va bits table some is placed in
+        record { same = below.same; allows = below.allows }
     by_kind bits Absent some is placed =
         let kind_is : kind_at tables height va ≡ Absent = ap (λ entry. kind_of_entry (kind_of m.arch) height entry) some ∙ is in
         let leaf : leaf_at tables va ≡ None =
         leaf_at-no_table tables height va bits (some_levels m) some (absent_names_none (kind_of m.arch bits height) is) ∙ ap (leaf_of_kind height bits) is in
-        sym (by_tables_is va None (none_missing va (absent_names_none (kind_at tables height va) kind_is)) leaf)
+        let no_leaf : by_tables m va ≡ Err (NotMapped va) = by_tables_is va None (none_missing va (absent_names_none (kind_at tables height va) kind_is)) leaf in
+        record { same = sym no_leaf; allows = λ pa ok. never (NotMapped va) pa (by_tables m va) no_leaf ok }
 
     -- they have none: the leaf is a larger one, or there is none
     module _ (none : entry_at tables height va ≡ None) where
@@ -192,12 +239,13 @@ module _ (m : MachineImage) (valid : IsValid m) where
       by_larger_leaf None is = record {
         fits = lit< tt;
         same = ap (by_entry file sections va) (zero_absent m.arch) ∙ sym (by_tables_is va None (none_missing va names_none) (same_leaf ∙ is));
+        allows = λ pa ok. never (NotMapped va) pa (by_tables m va) (by_tables_is va None (none_missing va names_none) (same_leaf ∙ is)) ok;
       }
       by_larger_leaf (Some leaf) is =
           let of_entry : IsLeafOf tables (start va) (levels_of m) leaf = leaf_found tables (start va) (levels_of m) leaf is in
           let index : ℕ = start va % bytes_under leaf.height / unit in
           let larger : height < leaf.height = above_none leaf of_entry in
-          let leaf_of_unit : IsUnitLeaf m.arch (expanded_leaf (form_of m) (start va) (Some leaf)) (leaf.address + index * unit) =
+          let leaf_of_unit : IsUnitLeaf m.arch leaf.bits (expanded_leaf (form_of m) (start va) (Some leaf)) (leaf.address + index * unit) =
           expanded m.arch leaf.bits leaf.height index leaf.address (short leaf.height (start va) leaf.bits of_entry.below of_entry.entry)
           (omega (arith, of_entry.below, most_levels m)) larger (unit_within (start va) height leaf.height larger) of_entry.kind in
           let inside : index * unit + va % unit ≡ va % bytes_under leaf.height = place_in_leaf height leaf.height va (start va) larger place.same in
@@ -208,6 +256,10 @@ module _ (m : MachineImage) (valid : IsValid m) where
                 ∙ leaf_is va (leaf.address + index * unit)
                 ∙ ap Ok same_place
                 ∙ sym (by_tables_is va (Some leaf) (none_missing va names_none) (same_leaf ∙ is));
+            allows = λ pa ok.
+                ap (λ kind. protection_of m.arch (entry_by_kind file sections (expanded_leaf (form_of m) (start va) (Some leaf)) va kind)) leaf_of_unit.leaf
+                ∙ leaf_of_unit.same_protection
+                ∙ sym (ap (leaf_protection m.arch) (same_leaf ∙ is));
           }
         where
           above_none : (leaf : MappedBy) → IsLeafOf tables (start va) (levels_of m) leaf → height < leaf.height
@@ -223,10 +275,8 @@ module _ (m : MachineImage) (valid : IsValid m) where
     by_option None none = by_larger_leaf none (leaf_at tables (start va)) refl
     by_option (Some bits) some =
         let fits : bits < 2 ^ 64 = short height va bits (some_levels m) some in
-        record {
-          fits = fits;
-          same = by_kind bits (kind_of m.arch bits height) some refl (placed_kind m.arch bits height fits (omega (arith, some_levels m, most_levels m)));
-        }
+        let agrees_as = by_kind bits (kind_of m.arch bits height) some refl (placed_kind m.arch bits height fits (omega (arith, some_levels m, most_levels m))) in
+        record { fits = fits; same = agrees_as.same; allows = agrees_as.allows }
 
     agrees : Agrees va (walk.directory_entry tables (form_of m) (start va))
     agrees =
@@ -257,3 +307,10 @@ module _ (m : MachineImage) (valid : IsValid m) where
         ap (λ h. by_entry file sections va (kind_of m.arch (kvm.directory_entry file header va) h)) (entry_height m)
         ∙ ap (λ entry. by_entry file sections va (kind_of m.arch entry height)) (entry_read within)
         ∙ agrees.same
+
+    -- and what the last entry allows is what the leaf there allows
+    pub protection_is : index < entry_count m → Allows va (last_entry file sections va)
+    protection_is within pa ok =
+        ap (λ h. protection_of m.arch (entry_by_kind file sections (kvm.directory_entry file header va) va (kind_of m.arch (kvm.directory_entry file header va) h))) (entry_height m)
+        ∙ ap (λ entry. protection_of m.arch (entry_by_kind file sections entry va (kind_of m.arch entry height))) (entry_read within)
+        ∙ agrees.allows pa ok

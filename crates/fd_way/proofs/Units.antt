@@ -14,6 +14,7 @@ use Rattle.fd_pte.specs.Entry.{bytes_under, units_under, IsPlaced}
 use Rattle.fd_pte.specs.RiscvLaws.{riscv_placed, riscv_expanded}
 use Rattle.fd_pte.specs.declared.entry.Kind.TheVariants.{Absent, Leaf}
 use Rattle.fd_mini.specs.Layout.{entry_height_of}
+use Rattle.fd_kvm.specs.Walk.{protection_of}
 use Rattle.fd_dump.specs.Minidump.{mini_header_of}
 use Rattle.fd_way.proofs.Limits.{AreWindows}
 
@@ -54,21 +55,22 @@ zero_absent Amd64 = refl
 zero_absent Arm64 = refl
 zero_absent Riscv = refl
 
--- an entry that stands for one unit of a larger leaf is a leaf at that unit
-pub record IsUnitLeaf (arch : Arch) (bits address : ℕ) : Type 0 where
+-- an entry that stands for one unit of a larger leaf is a leaf at that unit, and allows what that allows
+pub record IsUnitLeaf (arch : Arch) (larger bits address : ℕ) : Type 0 where
   pub leaf : kind_of arch bits (directory_height_of arch) ≡ Leaf address
+  pub same_protection : protection_of arch bits ≡ protection_of arch larger
   pub fits : bits < 2 ^ 64
 
 pub expanded :
     (arch : Arch) (bits height index address : ℕ) → bits < 2 ^ 64 → height ≤ 3 → directory_height_of arch < height
     → index < units_under (directory_height_of arch) height → kind_of arch bits height ≡ Leaf address
-    → IsUnitLeaf arch (expansion_of arch bits height index) (address + index * bytes_under (directory_height_of arch))
+    → IsUnitLeaf arch bits (expansion_of arch bits height index) (address + index * bytes_under (directory_height_of arch))
 expanded Amd64 bits height index address fits low larger within leaf =
-    let unit = amd64_expanded bits height index address fits low larger within leaf in record { leaf = unit.leaf; fits = unit.fits }
+    let unit = amd64_expanded bits height index address fits low larger within leaf in record { leaf = unit.leaf; same_protection = unit.same_protection; fits = unit.fits }
 expanded Arm64 bits height index address fits low larger within leaf =
-    let unit = arm64_expanded bits height index address fits low larger within leaf in record { leaf = unit.leaf; fits = unit.fits }
+    let unit = arm64_expanded bits height index address fits low larger within leaf in record { leaf = unit.leaf; same_protection = unit.same_protection; fits = unit.fits }
 expanded Riscv bits height index address fits low larger within leaf =
-    let unit = riscv_expanded bits height index address fits low larger within leaf in record { leaf = unit.leaf; fits = unit.fits }
+    let unit = riscv_expanded bits height index address fits low larger within leaf in record { leaf = unit.leaf; same_protection = unit.same_protection; fits = unit.fits }
 
 -- the first address of the unit of an address in the kernel window
 abbrev pub unit_start : Arch → (kernbase va : ℕ) → ℕ

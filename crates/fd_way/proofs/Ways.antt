@@ -25,12 +25,13 @@ use Rattle.fd_mini.specs.Kernel.{KernelBytes}
 use Rattle.fd_mini.specs.declared.address_fault.AddressFault.{AddressFault}
 use Rattle.fd_vmcore.specs.declared.open.OpenFault.{OpenFault}
 use Rattle.fd_kvm.specs.Answer.{answer_of}
-use Rattle.fd_way.specs.Drill.{Answers, Drill, Drills, Ended, IsDumped, EndsRefused, EndsSaved, IsSavecore, Leaves, Outcome, Refused, Saved}
+use Rattle.fd_way.specs.Drill.{Answers, Drill, Drills, Ended, EndsRefused, EndsSaved, IsDumped, IsOfFile, IsSavecore, Leaves, Outcome, Refused, Saved}
 use Rattle.fd_way.specs.Drill.{after, no_options, refusal_text, saved_text}
-use Rattle.fd_way.specs.Steps.{IsOfFile, LacksNumber, PrintsFile, PrintsRefusal, Reads, RefusesWhole, Saves, SavesAndClears, Writes, WritesFirst}
+use Rattle.fd_way.specs.Steps.{GivenBy, LacksNumber, PrintsFile, PrintsRefusal, Reads, RefusesWhole, Saves, SavesAndClears, Writes, WritesFirst}
 use Rattle.fd_way.specs.declared.way_fault.Drilled.TheVariants as drilled
 use Rattle.fd_way.specs.declared.way_fault.WayFault.{WayFault}
 use Rattle.fd_way.specs.declared.way_fault.WayFault.TheVariants as way
+use Rattle.fd_way.proofs.FileText.{answer_of-bytes}
 
 -- what is known of the files after a whole save
 abbrev pub SavedLaw : Type 0
@@ -193,11 +194,11 @@ module _ (d : Drill) (old mid : Seen) (was : Watched ℕ)
     told_files c told =
         told_last ∙ sym (with_entries-append old.told dump saves.planned) ∙ ap (λ t. with_entries (with_entries t dump) saves.planned) told
 
-    given_there : (given : Result KernelBytes OpenFault) → IsOfFile last.told saved.number d.va d.count given → Told old.told (λ c. given ≡ answer_of saves.body d.va d.count)
+    given_there : (given : Result KernelBytes OpenFault) → GivenBy last.told saved.number d.va d.count given → Told old.told (λ c. given ≡ answer_of saves.body d.va d.count)
     given_there given is c told = is (then_adds (then_adds c dump) saves.planned) (told_files c told) saves.body (file_there c told)
 
-    is_saved : (given : Result KernelBytes OpenFault) → Told old.told (λ c. given ≡ answer_of saves.body d.va d.count) → EndsSaved d old saved.number len given all
-    is_saved given is = record {
+    is_saved : (given : Result KernelBytes OpenFault) → IsOfFile given → Told old.told (λ c. given ≡ answer_of saves.body d.va d.count) → EndsSaved d old saved.number len given all
+    is_saved given of is = record {
       dump = dump;
       dumped = dumped;
       saved = saved;
@@ -206,6 +207,7 @@ module _ (d : Drill) (old mid : Seen) (was : Watched ℕ)
       is_savecore = savecore_there saved saves.body saves.planned saves.is_savecore;
       number_is = refl;
       len_is = refl;
+      of_file = of;
       given_is = is;
       is = refl;
     }
@@ -215,7 +217,7 @@ module _ (d : Drill) (old mid : Seen) (was : Watched ℕ)
     read fault p = record {
       outcome = Saved saved.number len (Ok p.given);
       added = all;
-      does = is_saved (Ok p.given) (given_there (Ok p.given) p.is_given);
+      does = is_saved (Ok p.given) tt (given_there (Ok p.given) p.is_given);
       told = told_new;
       printed = p.printed;
       is = ap (λ f. Ok (drilled.Saved saved.number len f)) p.fault_is;
@@ -226,26 +228,23 @@ module _ (d : Drill) (old mid : Seen) (was : Watched ℕ)
       number = saved.number;
       len = len;
       given = answer_of saves.body d.va d.count;
-      is_saved = is_saved (answer_of saves.body d.va d.count) (λ c told. refl);
+      is_saved = is_saved (answer_of saves.body d.va d.count) (answer_of-bytes saves.body d.va d.count) (λ c told. refl);
       said = refl;
     }))
 
     pub not_read : (fault : WayFault) → Reads last.told saved.number d.va d.count (saved_text saved.number len) was now (Err fault) → Drills d old new was now (Err fault)
-    not_read (way.Unread fault) r = (
-      r.of_bytes,
-      record {
-        outcome = Saved saved.number len (Err fault);
-        added = all;
-        does = is_saved (Err fault) (given_there (Err fault) r.is_given);
-        told = told_new;
-        printed = r.printed ∙ ap (grown was.told) (sym (append-nil (saved_text saved.number len)));
-        is = refl;
-      },
-    )
+    not_read (way.Unread fault) r = record {
+      outcome = Saved saved.number len (Err fault);
+      added = all;
+      does = is_saved (Err fault) r.of_bytes (given_there (Err fault) r.is_given);
+      told = told_new;
+      printed = r.printed ∙ ap (grown was.told) (sym (append-nil (saved_text saved.number len)));
+      is = refl;
+    }
     not_read way.SinkFault r = record {
       outcome = Saved saved.number len r.given;
       added = all;
-      does = is_saved r.given (given_there r.given r.is_given);
+      does = is_saved r.given r.of_file (given_there r.given r.is_given);
       told = told_new;
       n = r.n;
       printed = r.printed;

@@ -99,7 +99,21 @@ pub record EndsUnnumbered (d : Drill) (found : Seen) (added : List Entry) : Type
   pub dumped : IsDumped d found added
   pub none : HasNoNumber no_options (after found added)
 
--- the dump that stood there was saved and cleared, and this is what reading its bytes gives, where they are told
+-- what a file is refused for by its bytes
+abbrev pub IsOfBytes : OpenFault → Type 0
+IsOfBytes vmcore.NoFile = ⊥
+IsOfBytes (vmcore.Short need have) = Unit {0}
+IsOfBytes (vmcore.Mini fault) = Unit {0}
+IsOfBytes (vmcore.BadAvail index) = Unit {0}
+IsOfBytes vmcore.SiteFault = ⊥
+IsOfBytes vmcore.NoMemory = ⊥
+
+-- what a read may give of a file, whatever its bytes are
+abbrev pub IsOfFile : Result KernelBytes OpenFault → Type 0
+IsOfFile (Ok given) = Unit {0}
+IsOfFile (Err fault) = IsOfBytes fault
+
+-- the dump that stood there was saved and cleared, and this is what reading it gives: where its bytes are told, theirs
 pub record EndsSaved (d : Drill) (found : Seen) (number len : ℕ) (given : Result KernelBytes OpenFault) (added : List Entry) : Type 0 where
   pub dump : List Entry
   pub dumped : IsDumped d found dump
@@ -109,6 +123,7 @@ pub record EndsSaved (d : Drill) (found : Seen) (number len : ℕ) (given : Resu
   pub is_savecore : IsSavecore (after found dump) saved body planned
   pub number_is : number ≡ saved.number
   pub len_is : len ≡ saved.header.dumplength
+  pub of_file : IsOfFile given
   pub given_is : Told found.told (λ c. given ≡ answer_of body d.va d.count)
   pub is : added ≡ dump ++ planned
 
@@ -194,19 +209,10 @@ pub record FindsNoNumber (d : Drill) (old new : Seen) (was now : Watched ℕ) : 
   pub told : new.told ≡ with_entries old.told added
   pub silent : now ≡ was
 
--- what a file is refused for by its bytes
-abbrev pub IsOfBytes : OpenFault → Type 0
-IsOfBytes vmcore.NoFile = ⊥
-IsOfBytes (vmcore.Short need have) = Unit {0}
-IsOfBytes (vmcore.Mini fault) = Unit {0}
-IsOfBytes (vmcore.BadAvail index) = Unit {0}
-IsOfBytes vmcore.SiteFault = ⊥
-IsOfBytes vmcore.NoMemory = ⊥
-
 -- what a drill did, by its answer
 abbrev pub Drills : Drill → (old new : Seen) → (was now : Watched ℕ) → Result Drilled WayFault → Type 0
 Drills d old new was now (Ok done) = Answers d old new was now (Ok done)
-Drills d old new was now (Err (way.Unread fault)) = IsOfBytes fault × Answers d old new was now (Err (way.Unread fault))
+Drills d old new was now (Err (way.Unread fault)) = Answers d old new was now (Err (way.Unread fault))
 Drills d old new was now (Err (way.NoRoom room)) = HasNoRoom d old new was now room
 Drills d old new was now (Err way.NoNumber) = FindsNoNumber d old new was now
 Drills d old new was now (Err way.SinkFault) = Unprinted d old new was now

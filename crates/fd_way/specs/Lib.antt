@@ -1,3 +1,6 @@
+pub mod ImageWalk
+pub mod PagesPrinted
+pub mod PagesText
 pub mod Drill
 pub mod Laws
 pub mod Print

@@ -22,7 +22,7 @@ use Rattle.fd_mini.specs.Kernel.{KernelBytes}
 use Rattle.fd_mini.specs.declared.address_fault.AddressFault.{AddressFault}
 use Rattle.fd_vmcore.specs.declared.open.OpenFault.{OpenFault}
 use Rattle.fd_kvm.specs.Answer.{answer_of}
-use Rattle.fd_way.specs.Drill.{IsOfBytes, IsSavecore, file_text, no_options, refusal_text, saved_text}
+use Rattle.fd_way.specs.Drill.{IsOfBytes, IsOfFile, IsSavecore, file_text, no_options, refusal_text, saved_text}
 use Rattle.fd_way.specs.declared.way_fault.WayFault.{WayFault}
 use Rattle.fd_way.specs.declared.way_fault.WayFault.TheVariants as way
 
@@ -85,26 +85,27 @@ PrintsRefusal why old new (Err (way.Unread fault)) = ⊥
 PrintsRefusal why old new (Err way.SiteFault) = ⊥
 
 -- what a read of the file of this number gives, where files are told
-abbrev pub IsOfFile : Option Contents → (number va count : ℕ) → Result KernelBytes OpenFault → Type 0
-IsOfFile told number va count given = Told told (λ c. (f : List ℕ) → file_of c (vmcore_name number) ≡ Some f → given ≡ answer_of f va count)
+abbrev pub GivenBy : Option Contents → (number va count : ℕ) → Result KernelBytes OpenFault → Type 0
+GivenBy told number va count given = Told told (λ c. (f : List ℕ) → file_of c (vmcore_name number) ≡ Some f → given ≡ answer_of f va count)
 
 -- behind some text, that of a file was printed
 pub record PrintsFile (told : Option Contents) (number va count : ℕ) (front : List ℕ) (old new : Watched ℕ) (fault : Option AddressFault) : Type 0 where
   pub given : KernelBytes
-  pub is_given : IsOfFile told number va count (Ok given)
+  pub is_given : GivenBy told number va count (Ok given)
   pub fault_is : fault ≡ given.fault
   pub printed : new.told ≡ grown old.told (front ++ file_text va (Ok given))
 
 -- the file was refused
 pub record RefusesFile (told : Option Contents) (number va count : ℕ) (front : List ℕ) (old new : Watched ℕ) (fault : OpenFault) : Type 0 where
-  pub is_given : IsOfFile told number va count (Err fault)
+  pub is_given : GivenBy told number va count (Err fault)
   pub of_bytes : IsOfBytes fault
   pub printed : new.told ≡ grown old.told front
 
 -- the sink failed: some of the first bytes of the text were printed
 pub record PrintsFirst (told : Option Contents) (number va count : ℕ) (front : List ℕ) (old new : Watched ℕ) : Type 0 where
   pub given : Result KernelBytes OpenFault
-  pub is_given : IsOfFile told number va count given
+  pub of_file : IsOfFile given
+  pub is_given : GivenBy told number va count given
   pub n : ℕ
   pub printed : new.told ≡ grown old.told (take n (front ++ file_text va given))
 

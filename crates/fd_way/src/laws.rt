@@ -13,6 +13,8 @@ ghost use Rattle.fd_part.specs.Partition.{IsClear, is_good, need_of};
 ghost use Rattle.fd_kvm.specs.Answer.{answer_of};
 ghost use Rattle.fd_way.specs.Drill.{Does, Drill, Outcome};
 ghost use Rattle.fd_way.specs.Laws.{EndsOverClear, IsDecided};
+ghost use Rattle.fd_kvm.specs.Walk.{walk_in};
+ghost use Rattle.fd_way.specs.ImageWalk.{image_walk};
 
 use fd_mini::each_header_is_read_back;
 use fd_save::laws::each_save_is_saved;
@@ -44,4 +46,12 @@ pub fn each_drill_over_a_clear_partition_is_the_images()
 {
     each_read_of_a_minidump_is_the_images();
     each_save_is_saved();
+}
+
+/// The walk of a valid image's minidump gives the image's dumped pages: those that its page tables map in the kernel window,
+/// by rising address, and then the others, by rising bit. It rests on the law that a header page is read back.
+pub fn the_walk_of_a_minidump_is_the_images()
+    ensures { (m : MachineImage) → IsValid m → walk_in (minidump_of m) ≡ Ok (image_walk m) }
+{
+    each_header_is_read_back();
 }

@@ -1,11 +1,14 @@
-//! The whole way of a dump: what reading an image's minidump gives is what the image gives, the text in which bytes are
-//! printed, and one call that writes a dump or its first sectors, saves it and reads it back. Stands on the definitions of
-//! `fd_dump` and of `fd_kvm`, on the writer of `fd_part` and on `fd_save`; reads as kvm(3) does.
+//! The whole way of a dump: what reading and walking an image's minidump give is what the image gives, the texts in which
+//! bytes and pages are printed, and one call that writes a dump or its first sectors, saves it and reads it back. Stands on
+//! the definitions of `fd_dump` and of `fd_kvm`, on the writer of `fd_part` and on `fd_save`; reads as kvm(3) does.
 #![tactic(auto)]
 
 mod drilling;
 mod first_sectors;
 pub mod laws;
+mod pages;
+#[cfg(test)]
+mod pages_tests;
 mod print;
 mod print_fault;
 mod savecore;
@@ -15,6 +18,7 @@ mod tests;
 mod text;
 mod way_fault;
 
+pub use pages::{PagesFault, print_pages};
 pub use drilling::drill;
 pub use print::print_read;
 pub use print_fault::PrintFault;

@@ -10,7 +10,7 @@ use std::alloc::{AllocError, Global};
 const LINE: usize = 16;
 
 /// How many characters a full line has: the address, three for each byte, and the newline.
-const FULL: usize = 16 + 3 * LINE + 1;
+pub(crate) const FULL: usize = 16 + 3 * LINE + 1;
 
 // The hexadecimal digit of a number.
 fn digit(value: u8) -> u8
@@ -25,7 +25,7 @@ fn digit(value: u8) -> u8
 }
 
 // Writes an address in 16 digits in front of a line, the last digit first.
-fn put_address(line: &mut [u8; FULL], va: u64)
+pub(crate) fn put_address(line: &mut [u8; FULL], va: u64)
     ensures { take 16 line.new ≡ hex 16 va }
 {
     let mut place = 16;

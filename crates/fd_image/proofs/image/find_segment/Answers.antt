@@ -1,34 +1,15 @@
--- The last segment that begins at or before the address is the only one that may have it.
-use Rattle.std.proofs.Common.{◌≡◌, ◌∙◌, ℕ, List, [], false, true, Some, ap, sym, arith, rules}
-use Rattle.fd_image.specs.declared.parts.Seg.{Seg}
+-- A segment that has the address is the only one.
+use Rattle.std.proofs.Common.{◌≡◌, ◌∙◌, ◌<◌, length, true, Some, ap, sym, arith}
+use Rattle.std.proofs.lemmas.Bool.Decides.{nat_tests}
 use Rattle.fd_image.specs.Physical.{has_address}
-use Rattle.fd_image.proofs.Segments.{Splits, Splits-from_search, no_segment, last_segment, not_last_segment}
+use Rattle.fd_image.proofs.Segments.{only_segment}
 use Rattle.fd_image.proofs.image.find_segment.Goals as goal
 
-pub returns-then-count-eq0 : goal.returns-then-count-eq0
-returns-then-count-eq0 c =
-    let segs : List Seg = c.args.segs.now in
-    let count : ℕ = c.partition_point-count.result in
-    let splits : Splits c.args.pa segs count = Splits-from_search c.args.pa segs count c.partition_point-count.ensures.partitioned c.requires (λ a r f k. search rules) in
-    sym (no_segment c.args.pa segs count c.requires splits (record { start = 0; bytes = [] }) (omega arith))
-
-pub returns-then-has_address : goal.returns-then-has_address
-returns-then-has_address c =
-    let segs : List Seg = c.args.segs.now in
-    let count : ℕ = c.partition_point-count.result in
-    let seg = c.index-segs-count.result in
-    let splits : Splits c.args.pa segs count = Splits-from_search c.args.pa segs count c.partition_point-count.ensures.partitioned c.requires (λ a r f k. search rules) in
+pub returns-in-Some : goal.returns-in-Some
+returns-in-Some c =
+    let seg = c.in-Some.seg.now in
     let has : has_address c.args.pa seg ≡ true = sym c.has_address.ensures ∙ c.if-has_address.true in
-    ap Some c.index-segs-count.is
-    ∙ sym (last_segment c.args.pa segs count c.requires splits seg (omega arith) (omega arith)
-    (ap (has_address c.args.pa) (sym c.index-segs-count.is) ∙ has))
-
-pub returns-else-has_address : goal.returns-else-has_address
-returns-else-has_address c =
-    let segs : List Seg = c.args.segs.now in
-    let count : ℕ = c.partition_point-count.result in
-    let seg = c.index-segs-count.result in
-    let splits : Splits c.args.pa segs count = Splits-from_search c.args.pa segs count c.partition_point-count.ensures.partitioned c.requires (λ a r f k. search rules) in
-    let has_not : has_address c.args.pa seg ≡ false = sym c.has_address.ensures ∙ c.if-has_address.false in
-    sym (not_last_segment c.args.pa segs count c.requires splits seg (omega arith) (omega arith)
-    (ap (has_address c.args.pa) (sym c.index-segs-count.is) ∙ has_not))
+    let is = c.in-Some.ensures.lookup in
+    let within : c.args.near.now < length c.args.segs.now = grind (arith, nat_tests, is.0) in
+    ap Some is.1
+    ∙ sym (only_segment c.args.pa c.args.segs.now c.args.near.now _ c.requires within (ap (has_address c.args.pa) (sym is.1) ∙ has))

@@ -1,5 +1,5 @@
 -- A view of all the bytes is the bytes.
-use Rattle.std.proofs.Common.{◌∙◌, ◌+◌, length, subst, arith}
+use Rattle.std.proofs.Common.{◌∙◌, ◌+◌, subst, arith}
 use Rattle.fd_image.specs.Image.{AreBytes}
 use Rattle.fd_image.proofs.Slices.{slice-all}
 use Rattle.fd_image.proofs.typed.region_is_typed.Goals as goal

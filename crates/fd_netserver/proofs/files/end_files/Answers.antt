@@ -1,6 +1,6 @@
-use Rattle.std.proofs.Common.{◌≡◌, List, ◌∙◌, OnErr, OnOk, subst, sym, ap, IsSome}
+use Rattle.std.proofs.Common.{◌≡◌, List, ◌∙◌, OnErr, OnOk, subst}
 use Rattle.fd_site.specs.Begun.{IsBegun}
-use Rattle.fd_site.specs.Contents.{Adds, file_of, with_entries}
+use Rattle.fd_site.specs.Contents.{Adds, with_entries}
 use Rattle.fd_site.specs.Journal.{Entry}
 use Rattle.fd_netserver.proofs.Steps.{end_named}
 use Rattle.fd_netserver.proofs.files.end_files.Goals as goal

@@ -1,4 +1,3 @@
-use Rattle.std.proofs.Common.{refl}
 use Rattle.fd_site.specs.Journal.{Create, Write, Sync}
 use Rattle.fd_netserver.proofs.Steps.{begun_after, begun_by, there_made, there_written, on_err}
 use Rattle.fd_netserver.proofs.files.finish_files.Goals as goal

@@ -1,4 +1,4 @@
-use Rattle.std.proofs.Common.{◌≡◌, Bool, cond, Some, None, sym, ◌∙◌, ap}
+use Rattle.std.proofs.Common.{Bool, cond, Some, None, sym, ◌∙◌, ap}
 use Rattle.fd_netserver.proofs.Standing.{accepted-err, accepted-ok, plain_is}
 use Rattle.fd_netserver.proofs.header.accepted.Goals as goal
 

@@ -1,4 +1,4 @@
-use Rattle.std.proofs.Common.{◌≡◌, ◌≤◌, ◌<◌, sym, ◌∙◌, refl, arith}
+use Rattle.std.proofs.Common.{sym, ◌∙◌, refl, arith}
 use Rattle.fd_site.specs.Contents.{file_of}
 use Rattle.fd_netserver.proofs.Numbers.{left-start, left-found, left-next, left-end}
 use Rattle.fd_netserver.proofs.number.free_number.Goals as goal

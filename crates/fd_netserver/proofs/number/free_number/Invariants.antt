@@ -1,4 +1,4 @@
-use Rattle.std.proofs.Common.{◌≡◌, ◌≤◌, ◌-◌}
+use Rattle.std.proofs.Common.{◌≡◌}
 use Rattle.fd_site.specs.Contents.{Told, file_of}
 use Rattle.fd_site.specs.Seen.{Untouched}
 use Rattle.fd_netserver.specs.Files.{free_number}

@@ -1,5 +1,5 @@
-use Rattle.std.proofs.Common.{length, ap, arith, ◌≡◌}
-use Rattle.fd_netserver.specs.Stands.{finishes, dones}
+use Rattle.std.proofs.Common.{ap, arith}
+use Rattle.fd_netserver.specs.Stands.{finishes}
 use Rattle.fd_netserver.proofs.Places.{dones-most}
 use Rattle.fd_netserver.proofs.serving.note.Goals as goal
 

@@ -1,4 +1,3 @@
-use Rattle.std.proofs.Common.{refl}
 use Rattle.fd_netserver.proofs.Going.{opened_only}
 use Rattle.fd_netserver.proofs.serving.respond.Goals as goal
 

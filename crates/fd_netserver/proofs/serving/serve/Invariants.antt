@@ -1,6 +1,7 @@
 use Rattle.std.proofs.Common.{◌≡◌, ◌≤◌, List, Option, length}
 use Rattle.fd_site.specs.Seen.{Frame}
-use Rattle.fd_netserver.specs.Serving.{IsPaced, IsServed, finished_in}
+use Rattle.fd_netserver.specs.Serving.{finished_in}
+use Rattle.fd_netserver.specs.Turning.{IsPaced, IsServed}
 use Rattle.fd_netserver.specs.Session.{Turn}
 use Rattle.fd_netserver.specs.Stands.{dones}
 use Rattle.fd_netserver.proofs.serving.serve.Given as goal

@@ -1,5 +1,5 @@
-use Rattle.std.proofs.Common.{◌≡◌, refl}
-use Rattle.fd_netserver.specs.Serving.{BreaksInput}
+use Rattle.std.proofs.Common.{refl}
+use Rattle.fd_netserver.specs.Turning.{BreaksInput}
 use Rattle.fd_netserver.specs.declared.limits.ServeFault.TheVariants.{NoMemory, PortsFault}
 use Rattle.fd_netserver.proofs.Going.{breaks_at_answer, breaks_at_reply, goes_on, passed}
 use Rattle.fd_netserver.proofs.serving.take_input.Goals as goal
@@ -17,7 +17,6 @@ returns-in_err-reply-clause-err g c =
 
 pub returns-in_err-respond-clause-err : goal.returns-in_err-respond-clause-err
 returns-in_err-respond-clause-err g c =
-    let parts = c.in_err-respond.ensures.err in
     let taken = c.in_ok-reply.ensures in
     passed c.from_residual-in_err-respond.result PortsFault (BreaksInput _ _ _ _ _ _ _ _) c.from_residual-in_err-respond.ensures.1
-    (breaks_at_answer _ _ _ _ _ _ _ c.in_ok-reply.reply taken.turn taken.frame.count taken.cause _ c.note.ensures parts.0 parts.1 parts.2 parts.3)
+    (breaks_at_answer _ _ _ _ _ _ _ c.in_ok-reply.reply taken.turn taken.frame.count taken.cause _ c.note.ensures c.in_err-respond.ensures.err)

@@ -1,6 +1,6 @@
-use Rattle.std.proofs.Common.{◌≡◌, [], ◌∷◌, ◌∙◌, refl, ap}
+use Rattle.std.proofs.Common.{[], ◌∷◌, ◌∙◌, ap}
 use Rattle.fd_site.specs.Trace.{grown, taken_event}
-use Rattle.fd_netserver.specs.Serving.{BreaksTurn}
+use Rattle.fd_netserver.specs.Turning.{BreaksTurn}
 use Rattle.fd_netserver.specs.declared.limits.ServeFault.TheVariants.{PortsFault}
 use Rattle.fd_netserver.proofs.Going.{breaks_at_look, breaks_on, if_err, on_ok, passed, turns_on, turns_silent}
 use Rattle.fd_netserver.proofs.serving.take_turn.Goals as goal

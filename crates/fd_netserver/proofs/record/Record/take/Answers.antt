@@ -1,4 +1,4 @@
-use Rattle.std.proofs.Common.{refl, sym, Some}
+use Rattle.std.proofs.Common.{sym, Some}
 use Rattle.fd_netserver.specs.declared.step.Step.TheVariants as step
 use Rattle.fd_netmsg.specs.Message.{meant}
 use Rattle.fd_netserver.specs.Table.{session_row}

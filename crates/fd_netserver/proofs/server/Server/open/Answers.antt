@@ -1,4 +1,4 @@
-use Rattle.std.proofs.Common.{◌≡◌, ◌++◌, ◌+◌, ℕ, Option, length, [], ◌∷◌, sym, ◌∙◌, ap, subst}
+use Rattle.std.proofs.Common.{◌++◌, ◌+◌, length, [], ◌∷◌, sym, ◌∙◌, ap, subst}
 use Rattle.fd_netserver.specs.Session.{opened, Open, Broken}
 use Rattle.fd_site.specs.Contents.{file_of}
 use Rattle.fd_netserver.specs.Files.{free_number}

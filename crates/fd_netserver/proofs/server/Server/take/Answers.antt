@@ -1,4 +1,3 @@
-use Rattle.std.proofs.Common.{◌≡◌, refl, arith}
 use Rattle.fd_netmsg.specs.Message.{meant}
 use Rattle.fd_netserver.proofs.Turns.{no_message, herald_turn, session_turn, session_stands}
 use Rattle.fd_netserver.proofs.server.Server.take.Goals as goal

@@ -1,4 +1,4 @@
-use Rattle.std.proofs.Common.{◌≡◌, ◌≤◌, ◌<◌, length, sym, ◌∙◌, ap, subst, arith}
+use Rattle.std.proofs.Common.{length, sym, ◌∙◌, ap, subst, arith}
 use Rattle.fd_netmsg.specs.Message.{meant}
 use Rattle.fd_site.specs.Contents.{file_of}
 use Rattle.fd_netserver.specs.declared.reply.Skip.TheVariants as skip

@@ -1,4 +1,4 @@
-use Rattle.std.proofs.Common.{refl, Some, ◌≡◌, ◌≤◌, ◌<◌, ◌-◌, length, get_or, sym, ◌∙◌, ap, subst, arith}
+use Rattle.std.proofs.Common.{◌-◌, length, get_or, ◌∙◌, ap, arith}
 use Rattle.fd_netmsg.specs.Message.{meant}
 use Rattle.fd_netserver.proofs.Places.{port_done, port_cause, port_turn, port_stands, vain_turn, vain_stands}
 use Rattle.fd_netserver.proofs.server.Server.take_session.Goals as goal
@@ -35,5 +35,5 @@ returns-clause-done g c =
 pub returns-clause-cause : goal.returns-clause-cause
 returns-clause-cause g c =
     let e = ap length (c.as_slice.ensures.value ∙ c.self.view_is) in let l = c.if-index-as_slice.false in
-    port_cause c.take.result _ c.self.inside.sessions.items c.args.self.now c.self.view_is c.index_mut.result.now c.args.slot c.from-index.result c.from-index.ensures
+    port_cause c.take.result _ c.self.inside.sessions.items c.args.self.now c.self.view_is c.index_mut.result.now c.args.slot c.from-index.result c.from-index.ensures c.requires.slot
     (omega (arith, ap length c.self.view_is)) c.index_mut.ensures.value c.take.ensures.cause

@@ -11,8 +11,9 @@ loop-height-init g c = record {
   high = c.requires.high;
   way = λ root begins.
       let t = tables_of (g.M.Memory.word_at c.args.mem.now) g.E.Entry.kind_of g.row.LEVELS root in
-      way_in_table t c.args.va c.args.place.height c.args.place.table c.word-entry.result begins
-      (c.word-entry.ensures ∙ ap (λ index. g.M.Memory.word_at c.args.mem.now (c.args.place.table + 8 * index)) c.index_at.ensures);
+      way_in_table t c.args.va c.args.place.height c.args.place.table c.word_near-entry.result begins
+      (c.word_near-entry.ensures ∙ ap (λ index. g.M.Memory.word_at c.args.mem.now (c.args.place.table + 8 * index)) c.index_at.ensures);
+  aligned = c.requires.aligned;
   room = c.requires.room;
 }
 
@@ -23,9 +24,10 @@ loop-height-preserved g c = record {
   way = λ root begins.
       let t = tables_of (g.M.Memory.word_at c.args.mem.now) g.E.Entry.kind_of g.row.LEVELS root in
       way_down t c.args.va c.loop-height.height c.loop-height.table c.in-Table.below (c.loop-height.height - 1)
-      c.loop-height.entry c.word-entry-in-Table.result (c.loop-height.invariant.way root begins)
+      c.loop-height.entry c.word_near-entry-in-Table.result (c.loop-height.invariant.way root begins)
       (sym c.in-Table.ensures.kind) (omega arith)
-      (c.word-entry-in-Table.ensures
+      (c.word_near-entry-in-Table.ensures
       ∙ ap (λ index. g.M.Memory.word_at c.args.mem.now (c.in-Table.below + 8 * index)) c.index_at-in-Table.ensures);
+  aligned = c.in-Table.ensures.placed.1.aligned;
   room = omega (arith, c.in-Table.ensures.placed.1.short);
 }

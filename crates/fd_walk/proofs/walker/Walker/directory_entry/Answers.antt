@@ -13,9 +13,9 @@ returns-then-reached-DIRECTORY_HEIGHT g c root walked reached same =
     let table = c.args.reached.table in
     let index = c.index_at.ensures ∙ ap (λ height. index_at height c.args.va) c.DIRECTORY_HEIGHT-then-reached-DIRECTORY_HEIGHT.ensures in
     c.unwrap_or.ensures
-    ∙ entry_stands t form walked c.args.va c.args.reached.height table c.args.reached.entry c.word.result
+    ∙ entry_stands t form walked c.args.va c.args.reached.height table c.args.reached.entry c.word_near.result
     (c.if-reached-DIRECTORY_HEIGHT.true ∙ c.DIRECTORY_HEIGHT.ensures) reached.way same
-    (c.word.ensures ∙ ap (λ i. t.word_at (table + 8 * i)) index)
+    (c.word_near.ensures ∙ ap (λ i. t.word_at (table + 8 * i)) index)
 
 pub expand-requires-clause-index : goal.expand-requires-clause-index
 expand-requires-clause-index g c =

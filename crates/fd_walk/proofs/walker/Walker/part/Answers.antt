@@ -11,6 +11,6 @@ returns-clause-rest g c =
     let walk = c.descend_from-reached in
     let reached = walk.ensures.reached c.args.root before.table in
     IsRest-after t c.args.lowest c.args.rest.at ((c.args.rest.at + c.min-bytes.result) % 2 ^ 64) (c.args.rest.left - c.min-bytes.result)
-    (record { height = walk.result.height; table = walk.result.table }) c.place_after.result walk.result.entry
+    (record { height = walk.result.height; table = walk.result.table; near = walk.result.near }) c.place_after.result walk.result.entry
     before.aligned c.ranges.root.fits before.some_levels before.most_levels c.requires.low
-    (omega (arith, before.within)) reached.way reached.low walk.ensures.room c.place_after.ensures
+    (omega (arith, before.within)) reached.way walk.ensures.aligned reached.low walk.ensures.room c.place_after.ensures

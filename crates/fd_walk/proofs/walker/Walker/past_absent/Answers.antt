@@ -14,7 +14,7 @@ returns-clause-rest g c =
     let rest = c.args.rest in
     IsRest-after t c.args.lowest rest.at ((rest.at + c.min-bytes.result) % 2 ^ 64) (rest.left - c.min-bytes.result)
     rest.place c.place_after.result _ before.aligned c.ranges.root.fits before.some_levels before.most_levels c.requires.low
-    (omega (arith, before.within)) before.table before.low before.room c.place_after.ensures
+    (omega (arith, before.within)) before.table before.table_aligned before.low before.room c.place_after.ensures
 
 pub returns-clause-leaves : goal.returns-clause-leaves
 returns-clause-leaves g c =

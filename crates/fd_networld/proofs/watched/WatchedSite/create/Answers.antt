@@ -1,0 +1,11 @@
+use Rattle.std.proofs.Common.{arith}
+use Rattle.fd_networld.proofs.Watching.{cause_by, next_after}
+use Rattle.fd_networld.proofs.watched.WatchedSite.create.Goals as goal
+
+pub noted-requires : goal.noted-requires
+noted-requires g c = (omega arith, next_after c.create-answer.result _ _ c.create-answer.ensures.ok_calls c.create-answer.ensures.err_calls)
+
+pub returns-clause-cause : goal.returns-clause-cause
+returns-clause-cause g c =
+    cause_by g.row.MOST _ c.create-answer.new.self c.noted.new.self.site c.args.self.now.waiting c.args.self.now.failed c.noted.new.self.failed c.create-answer.result c.noted.result
+    c.noted.ensures.answer c.noted.ensures.site c.args.self.now.watched c.create-answer.ensures.err_calls c.noted.ensures.err
