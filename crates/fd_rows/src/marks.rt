@@ -1,8 +1,7 @@
 //! Dumps that mark first, over a partition that holds another dump.
 
-use crate::dumps::with_image;
 use crate::image_files::{riscv_image, smaller_image};
-use crate::partitions::check;
+use crate::partitions::{check, failing_partition};
 use fd_fake::{MemSite, StopSite};
 use std::alloc::Global;
 use std::process::Abort;
@@ -13,7 +12,8 @@ const BEFORE: u64 = 18;
 
 // A partition of 131072 bytes with the files of two images; the calls of these numbers fail.
 fn with_images(alloc: Global, fails: Vec<u64>) -> Result<MemSite, Fail> {
-    let mut site = with_image(alloc, 131072, fails, riscv_image(alloc)?)?;
+    let mut site = failing_partition(alloc, 131072, 512, fails)?;
+    site.preset_file("a.img", riscv_image(alloc)?)?;
     site.preset_file("b.img", smaller_image(alloc)?)?;
     Ok(site)
 }
