@@ -219,7 +219,7 @@ pub record IsHeadline : Type 0 where
   pub sent : EachNetdumpIsDelivered
   pub read : EachReadIsTheImages
 
--- the same of a dump that marks first
+-- the second headline: the same of a dump that marks first, over any partition
 pub record IsMarkedHeadline : Type 0 where
   pub cut : EachCutMarkedDumpIsSavedWhole
   pub sent : EachNetdumpIsDelivered

@@ -120,8 +120,7 @@ pub fn the_headline_holds()
     each_read_of_a_minidump_is_the_images();
 }
 
-/// The second headline: the same of `dump -i` over any partition, which is left as it was, or refused, or saved as exactly the
-/// image's minidump.
+/// The second headline: the same of `dump -i` over any good partition, which a cut may also leave as it was.
 pub fn the_marked_headline_holds()
     ensures { IsMarkedHeadline }
 {
