@@ -29,7 +29,7 @@ while [ "$tried" -lt "$dumps" ]; do
     done
     python3 "$top/bench/lossy.py" "$server" "$loss" $((seed + tried)) >"$folder/proxy" &
     proxy=$!
-    until grep -q ready "$folder/proxy"; do sleep 0.01; done
+    until grep -qs ready "$folder/proxy"; do sleep 0.01; done
     clients=()
     for ((i = 0; i < 16; i++)); do
         # Each sends another machine's dump, so that its file is known among the server's.
@@ -51,7 +51,8 @@ while [ "$tried" -lt "$dumps" ]; do
         fi
     done
     tried=$((tried + 16))
-    kill "$server" "$proxy"
+    # A server that has all its dumps has ended by itself.
+    kill "$server" "$proxy" 2>/dev/null || true
     wait "$server" "$proxy" 2>/dev/null || true
 done
 echo "of $tried dumps $done_ were sent and are whole, $silent were given up, $false were falsely reported"
