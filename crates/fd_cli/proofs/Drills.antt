@@ -260,8 +260,8 @@ ended : (source : Source) (stop va count : ℕ) (old new : Seen) (f : ℕ) (was 
     → way.Drills (drill_of stop va count m) (by_then old f) new was mid (Err why) → EndsDrill why mid now status
     → CallOnSite (drill_row source stop va count) old new was now status
 ended source stop va count old new f was mid now m (fault.Unread why) status begins frame first next site_cause sink_cause drills ends =
-    let a = drills.1 in
-    unread_by source stop va count old new f was mid now m why status a.outcome a.added begins a.does a.told a.printed a.is frame first next ends
+    unread_by source stop va count old new f was mid now m why status drills.outcome drills.added begins drills.does drills.told drills.printed drills.is frame first next
+    ends
 ended source stop va count old new f was mid now m (fault.NoRoom room) status begins frame first next site_cause sink_cause drills ends =
     refused_last source stop va count old new was mid now (Refused (no_room (by_then old f) m)) [] status (no_room (by_then old f) m) []
     (over_good old (DrillsSource source stop va count old) _ begins.good (Ok m, begins.given, (f, inl (record { short = drills.short; refuses = refl }))))
