@@ -1,5 +1,5 @@
 -- Files that are refused.
-use Rattle.std.proofs.Common.{◌≡◌, ◌∙◌, ℕ, List, [], Option, Some, None, Result, Ok, Err, IfOk, refl, sym, ap}
+use Rattle.std.proofs.Common.{◌≡◌, ◌∙◌, ℕ, List, [], Option, Some, None, Result, Ok, Err, refl, sym, ap}
 use Rattle.fd_site.specs.Contents.{Contents, Told, file_of}
 use Rattle.fd_vmcore.specs.Sections.{IsOpening, opened_file}
 use Rattle.fd_vmcore.specs.declared.open.OpenFault.{OpenFault}

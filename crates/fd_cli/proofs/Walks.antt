@@ -6,7 +6,7 @@ use Rattle.fd_site.specs.Seen.{Seen, Untouched, Watched}
 use Rattle.fd_site.proofs.Told.{with_entries-nil}
 use Rattle.fd_image.specs.Image.{IsValid, MachineImage}
 use Rattle.fd_dump.specs.Minidump.{minidump_of}
-use Rattle.fd_vmcore.specs.Sections.{IsOpening, Sections, opened, opened_file}
+use Rattle.fd_vmcore.specs.Sections.{IsOpening, opened_file}
 use Rattle.fd_vmcore.specs.declared.open.OpenFault.{OpenFault}
 use Rattle.fd_vmcore.specs.declared.open.OpenFault.TheVariants as vmcore
 use Rattle.fd_kvm.specs.Reader.{IsFileOf, Reader, StandsFor}

@@ -1,7 +1,6 @@
 -- `pages FILE`: the dumped pages of a saved minidump, in the order of a walk.
 use Rattle.std.specs.Prelude.{◌≡◌, ◌⊎◌, ℕ, List, [], take, Option, Some, None, Result, Ok, Err}
 use Rattle.fd_site.specs.Contents.{Contents, Told, file_of}
-use Rattle.fd_site.specs.Seen.{Seen}
 use Rattle.fd_vmcore.specs.declared.open.OpenFault.{OpenFault}
 use Rattle.fd_vmcore.specs.declared.open.OpenFault.TheVariants as vmcore
 use Rattle.fd_kvm.specs.Walk.{walk_in}
