@@ -97,6 +97,7 @@ starves_at_once (Some (command.Dump mark source)) found = refl
 starves_at_once (Some (command.Netdump source server)) found = refl
 starves_at_once (Some (command.Netdumpd dumps)) found = inl refl
 starves_at_once (Some (command.Read name va count)) found = refl
+starves_at_once (Some (command.Pages name)) found = refl
 starves_at_once (Some (command.Drill source stop va count)) found = inr ([], inl (refl, refl))
 
 pub starved_at_once : (command : Option Command) (r : Reach) (result : Result Reply Trouble) → IsErrAnd result (λ trouble. trouble ≡ NoMemory)

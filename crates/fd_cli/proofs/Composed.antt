@@ -5,7 +5,7 @@ use Rattle.fd_site.specs.Cut.{Disk}
 use Rattle.fd_site.specs.Journal.{Entry, stable_after}
 use Rattle.fd_site.specs.Seen.{Seen}
 use Rattle.fd_site.proofs.Told.{file_after-append, stable_after-append}
-use Rattle.fd_image.specs.Image.{MachineImage}
+use Rattle.fd_image.specs.Image.{IsValid, MachineImage}
 use Rattle.fd_kdh.specs.Header.{dump_header}
 use Rattle.fd_kdh.specs.declared.header.Header.{Header}
 use Rattle.fd_dump.specs.Header.{header_of}
@@ -22,9 +22,10 @@ use Rattle.fd_save.specs.Saving.{IsSaveJournal, clearing, device_name, parity_of
 use Rattle.fd_save.specs.declared.saved.Options.{Options}
 use Rattle.fd_save.specs.declared.saved.Saved.{Saved}
 use Rattle.fd_cli.specs.Crash.{IsRefusedOrNamed}
-use Rattle.fd_cli.specs.Laws.{EachCutDumpIsSavedWhole, EachCutMarkedDumpIsSavedWhole, IsFoundAs, IsRefusedOrWhollySaved, ReadsWhatWasDumped, after}
+use Rattle.fd_cli.specs.Laws.{EachCutDumpIsSavedWhole, EachCutMarkedDumpIsSavedWhole, IsFoundAs, IsRefusedOrWhollySaved, IsSized, ListsWhatWasDumped, ReadsWhatWasDumped, after}
+use Rattle.fd_cli.specs.Ending.{answer_status}
 use Rattle.fd_cli.specs.Row.{Work}
-use Rattle.fd_cli.specs.Rows.Dump.{Names}
+use Rattle.fd_cli.specs.Rows.Dump.{Names, dump_row}
 use Rattle.fd_cli.specs.Rows.Save.{Saves, clearing_unless, save_row}
 use Rattle.fd_cli.specs.declared.answer.Answer.TheVariants as answer
 use Rattle.fd_cli.specs.declared.refusal.Refusal.{Refusal}
@@ -34,6 +35,7 @@ use Rattle.fd_cli.proofs.Dumps.{image_of}
 use Rattle.fd_cli.proofs.Images.{ReadingLaw, read_is_images}
 use Rattle.fd_cli.proofs.Outcomes.{whole_of_zero}
 use Rattle.fd_cli.proofs.Saves.{refused_or_saved}
+use Rattle.fd_cli.proofs.Walks.{WalkingLaw, pages_are_images}
 
 -- a dump that was found is the one that stands there
 record IsSame (saved : Saved) (h : Header) (at : ℕ) (sector : List ℕ) : Type 0 where
@@ -194,9 +196,21 @@ saved_under options keep found w number len does is = elim (refused_or_saved opt
     same_number : (n l : ℕ) → answer.Saved n l ≡ answer.Saved number len → n ≡ number
     same_number n l is = cc
 
--- what was dumped, saved and read is the image's
-pub reads_what_was_dumped : SavedLaw → ReadingLaw → ReadsWhatWasDumped
-reads_what_was_dumped saved_law law mark source options keep found dump save read number len va count unforced sized does zero saves saved reads c told =
+-- a file that has exactly the minidump of a valid image that a source named
+record IsFileOfImage (was : Contents) (source : Source) (later : Seen) (name : List ℕ) : Type 0 where
+  image : MachineImage
+  names : Names was source image
+  valid : IsValid image
+  now : Contents
+  told : later.told ≡ Some now
+  file : file_of now name ≡ Some (minidump_of image)
+
+-- after a dump and a save, the saved file is such a one
+file_of_image : SavedLaw → (mark : Bool) (source : Source) (options : Options) (keep : Bool) (found : Seen) (dump save : Work) (number len : ℕ)
+    → options.force ≡ false → IsSized found → (dump_row mark source).Does found dump → answer_status dump.answer ≡ 0
+    → (save_row options keep).Does (after found dump) save → save.answer ≡ answer.Saved number len
+    → (c : Contents) → found.told ≡ Some c → IsFileOfImage c source (after (after found dump) save) (vmcore_name number)
+file_of_image saved_law mark source options keep found dump save number len unforced sized does zero saves saved c told =
     let whole = whole_of_zero mark source found dump does zero in
     let image = image_of found source whole.image whole.given c told in
     let dumped : Contents = then_adds c dump.added.entries in
@@ -206,8 +220,24 @@ reads_what_was_dumped saved_law law mark source options keep found dump save rea
     let of = save_of_this options keep (after found dump) save dumped whole.image told_dumped unforced under.0 this in
     let there = saved_after saved_law options keep (after found dump) save dumped under.0 in
     let now : Contents = then_adds dumped save.added.entries in
-    let file : file_of now (vmcore_name number) ≡ Some (minidump_of whole.image) =
-    ap (λ n. file_of now (vmcore_name n)) (sym under.1) ∙ there.vmcore.file ∙ ap (λ (b : List ℕ). Some b) of.body_is in
-    let finer = read_is_images law (after (after found dump) save) (vmcore_name number) va count now whole.image (ap (λ t. with_entries t save.added.entries) told_dumped)
-    image.valid file in
-    (whole.image, image.names, ap (λ x. x.answer) (finer.does read reads))
+    record {
+      image = whole.image;
+      names = image.names;
+      valid = image.valid;
+      now = now;
+      told = ap (λ t. with_entries t save.added.entries) told_dumped;
+      file = ap (λ n. file_of now (vmcore_name n)) (sym under.1) ∙ there.vmcore.file ∙ ap (λ (b : List ℕ). Some b) of.body_is;
+    }
+
+-- what was dumped, saved and read is the image's
+pub reads_what_was_dumped : SavedLaw → ReadingLaw → ReadsWhatWasDumped
+reads_what_was_dumped saved_law law mark source options keep found dump save read number len va count unforced sized does zero saves saved reads c told =
+    let of = file_of_image saved_law mark source options keep found dump save number len unforced sized does zero saves saved c told in
+    let finer = read_is_images law (after (after found dump) save) (vmcore_name number) va count of.now of.image of.told of.valid of.file in
+    (of.image, of.names, ap (λ x. x.answer) (finer.does read reads))
+
+-- what was dumped, saved and listed is the image's
+pub lists_what_was_dumped : SavedLaw → WalkingLaw → ListsWhatWasDumped
+lists_what_was_dumped saved_law law mark source options keep found dump save pages number len unforced sized does zero saves saved lists c told =
+    let of = file_of_image saved_law mark source options keep found dump save number len unforced sized does zero saves saved c told in
+    (of.image, of.names, pages_are_images law (after (after found dump) save) (vmcore_name number) of.now of.image pages.answer of.told of.valid of.file lists.0)

@@ -1,12 +1,12 @@
 -- Drills, however they end.
-use Rattle.std.proofs.Common.{◌≡◌, ◌⊎◌, inl, inr, ℕ, ◌+◌, ◌≤◌, true, false, List, [], ◌++◌, length, min, take, Option, Some, None, Result, Ok, Err, IfOk, IsErrOf, refl, sym, ◌∙◌, ap, subst, arith}
+use Rattle.std.proofs.Common.{◌≡◌, inl, inr, ℕ, ◌+◌, ◌≤◌, true, false, List, [], ◌++◌, length, min, take, Option, Some, None, Result, Ok, Err, IfOk, IsErrOf, refl, sym, ◌∙◌, ap, subst, arith}
 use Rattle.std.proofs.Math.Seq.{take-append-add}
 use Rattle.std.proofs.lemmas.List.{append-nil, take-append-le, take_min}
 use Rattle.fd_site.specs.Contents.{with_entries}
 use Rattle.fd_site.specs.Fault.{Rose}
 use Rattle.fd_site.specs.Journal.{Entry}
 use Rattle.fd_site.specs.Seen.{Frame, Seen, Untouched, Watched}
-use Rattle.fd_site.specs.Trace.{LinkEvent, PortsEvent, grown}
+use Rattle.fd_site.specs.Trace.{grown}
 use Rattle.fd_site.proofs.Told.{grown-append, grown-nil, with_entries-nil}
 use Rattle.fd_image.specs.Image.{MachineImage}
 use Rattle.fd_imgfile.specs.declared.fault.ImageFault.{ImageFault}
@@ -22,8 +22,7 @@ use Rattle.fd_way.specs.declared.way_fault.WayFault.TheVariants as fault
 use Rattle.fd_cli.specs.Ending.{CallOnSite, answer_status, answer_text, line}
 use Rattle.fd_cli.specs.Refusal.{line_of, status_of}
 use Rattle.fd_cli.specs.Reply.{IsReplyOf, WorksOnSite}
-use Rattle.fd_cli.specs.Row.{Added, Work, nothing, only, reach}
-use Rattle.fd_cli.specs.Rows.Common.{OnGood}
+use Rattle.fd_cli.specs.Row.{only}
 use Rattle.fd_cli.specs.Rows.Drill.{Drills, DrillsSource, EndsDrill, EndsEarly, PrintsRefusal, by_then, drill_of, drill_row, drilled_answer, drilled_status, file_refusal}
 use Rattle.fd_cli.specs.Rows.Dump.{IsGiven, RefusesImage, no_room}
 use Rattle.fd_cli.specs.Rows.Read.{answer_by}
@@ -260,8 +259,8 @@ ended : (source : Source) (stop va count : ℕ) (old new : Seen) (f : ℕ) (was 
     → way.Drills (drill_of stop va count m) (by_then old f) new was mid (Err why) → EndsDrill why mid now status
     → CallOnSite (drill_row source stop va count) old new was now status
 ended source stop va count old new f was mid now m (fault.Unread why) status begins frame first next site_cause sink_cause drills ends =
-    let a = drills.1 in
-    unread_by source stop va count old new f was mid now m why status a.outcome a.added begins a.does a.told a.printed a.is frame first next ends
+    unread_by source stop va count old new f was mid now m why status drills.outcome drills.added begins drills.does drills.told drills.printed drills.is frame first next
+    ends
 ended source stop va count old new f was mid now m (fault.NoRoom room) status begins frame first next site_cause sink_cause drills ends =
     refused_last source stop va count old new was mid now (Refused (no_room (by_then old f) m)) [] status (no_room (by_then old f) m) []
     (over_good old (DrillsSource source stop va count old) _ begins.good (Ok m, begins.given, (f, inl (record { short = drills.short; refuses = refl }))))

@@ -18,3 +18,4 @@ mod Sendings
 mod Servings
 mod Sound
 mod Stopped
+mod Walks

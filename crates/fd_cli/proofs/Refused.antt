@@ -1,5 +1,5 @@
 -- Files that are refused.
-use Rattle.std.proofs.Common.{◌≡◌, ◌∙◌, ℕ, List, [], Option, Some, None, Result, Ok, Err, IfOk, refl, sym, ap}
+use Rattle.std.proofs.Common.{◌≡◌, ◌∙◌, ℕ, List, [], Option, Some, None, Result, Ok, Err, refl, sym, ap}
 use Rattle.fd_site.specs.Contents.{Contents, Told, file_of}
 use Rattle.fd_vmcore.specs.Sections.{IsOpening, opened_file}
 use Rattle.fd_vmcore.specs.declared.open.OpenFault.{OpenFault}
@@ -39,7 +39,7 @@ pub refused_works : (old new : Seen) (name : List ℕ) (va count : ℕ) (fault :
     → Told old.told (λ c. IsOpening (file_of c name) (Err fault)) → Untouched old new → RefusesFile fault result
     → WorksOnSite (read_row name va count) old new result
 refused_works old new name va count fault (Ok reply) opening untouched is =
-    read_replied old new name va count is.0 reply (file_refused old.told name va count fault is.0 opening (is.1 va)) untouched.told is.2
+    read_replied old new name va count is.0 reply (file_refused old.told name va count fault is.0 opening is.1) untouched.told is.2
 refused_works old new name va count fault (Err trouble.Fault) opening untouched is =
     record { entries = []; leaves = refl; told = untouched.told ∙ with_entries-nil old.told }
 refused_works old new name va count fault (Err trouble.NoMemory) opening untouched is =

@@ -42,6 +42,7 @@ may_be_silent (Some (command.Dump mark source)) found added = refl
 may_be_silent (Some (command.Netdump source server)) found added = refl
 may_be_silent (Some (command.Netdumpd dumps)) found added = refl
 may_be_silent (Some (command.Read name va count)) found added = refl
+may_be_silent (Some (command.Pages name)) found added = inl refl
 may_be_silent (Some (command.Drill source stop va count)) found added = inl refl
 
 -- a whole dump was begun
@@ -121,6 +122,8 @@ sound (Some (command.Netdump source server)) local = absurd (no_bool local.0)
 sound (Some (command.Netdumpd dumps)) local = absurd (no_bool local.1)
 sound (Some (command.Read name va count)) local =
     record { whole = λ found w does. ap (λ x. x.added) does.1; starved = λ found added is. is; silent = λ found added. refl }
+sound (Some (command.Pages name)) local =
+    record { whole = λ found w does. ap (λ x. x.added) does.1; starved = λ found added is. is; silent = λ found added. inl refl }
 sound (Some (command.Drill source stop va count)) local = record {
   whole = λ found w does. inl (w, does, refl);
   starved = λ found added is. is;
@@ -147,6 +150,7 @@ adds_with_zero (Some (command.Dump mark source)) found w one local does = elim (
 adds_with_zero (Some (command.Netdump source server)) found w one local does = absurd (no_bool local.0)
 adds_with_zero (Some (command.Netdumpd dumps)) found w one local does = absurd (no_bool local.1)
 adds_with_zero (Some (command.Read name va count)) found w one local does = inr (ap (λ x. x.added) does.1)
+adds_with_zero (Some (command.Pages name)) found w one local does = inr (ap (λ x. x.added) does.1)
 adds_with_zero (Some (command.Drill source stop va count)) found w one local does = absurd one
 
 starves_with_nothing : (command : Option Command) (found : Seen) (added : Added) → IsOneStep command → IsLocal (row_of command) → (row_of command).Starves found added → added ≡ nothing
@@ -159,6 +163,7 @@ starves_with_nothing (Some (command.Dump mark source)) found added one local is 
 starves_with_nothing (Some (command.Netdump source server)) found added one local is = is
 starves_with_nothing (Some (command.Netdumpd dumps)) found added one local is = absurd (no_bool local.1)
 starves_with_nothing (Some (command.Read name va count)) found added one local is = is
+starves_with_nothing (Some (command.Pages name)) found added one local is = is
 starves_with_nothing (Some (command.Drill source stop va count)) found added one local is = absurd one
 
 pub only_done_or_failed_adds : OnlyDoneOrFailedAdds
@@ -206,6 +211,7 @@ adds_entries_alone (Some (command.Dump mark source)) found added local left = el
 adds_entries_alone (Some (command.Netdump source server)) found added local left = absurd (no_bool local.0)
 adds_entries_alone (Some (command.Netdumpd dumps)) found added local left = absurd (no_bool local.1)
 adds_entries_alone (Some (command.Read name va count)) found added local left = none_alone added left
+adds_entries_alone (Some (command.Pages name)) found added local left = none_alone added left
 adds_entries_alone (Some (command.Drill source stop va count)) found added local left = elim left [
   | inl done ↦ subst (λ (a : Added). a ≡ only a.entries) done.2 (drill_alone source stop va count found done.0 done.1)
   | inr early ↦ elim early.1 [ inl none ↦ none_alone added none.0 | inr begun ↦ begun.2.alone ]

@@ -18,6 +18,7 @@ use Rattle.fd_save.specs.Saving.{device_name, parity_of}
 use Rattle.fd_save.specs.declared.saved.Options.{Options}
 use Rattle.fd_judge.specs.declared.why.Why.TheVariants.{Cleared}
 use Rattle.fd_kvm.specs.Answer.{answer_of}
+use Rattle.fd_way.specs.ImageWalk.{image_walk}
 use Rattle.fd_cli.specs.Crash.{IsCutOfDump, IsCutOfMarkedDump, IsCutOfSavecore, LeavesSavedFiles}
 use Rattle.fd_cli.specs.Ending.{Call, answer_status}
 use Rattle.fd_cli.specs.Row.{Added, Grew, Outside, Row, Work, nothing, only}
@@ -28,6 +29,7 @@ use Rattle.fd_cli.specs.Delivered.{HasTurns, IsImageKept, IsKeptByCalls}
 use Rattle.fd_cli.specs.Rows.Judge.{judge_row}
 use Rattle.fd_cli.specs.Rows.Netdump.{netdump_row, sent_to, usual}
 use Rattle.fd_cli.specs.Rows.Netdumpd.{netdumpd_row}
+use Rattle.fd_cli.specs.Rows.Pages.{pages_answer, pages_row}
 use Rattle.fd_cli.specs.Rows.Read.{bytes_answer, read_row}
 use Rattle.fd_cli.specs.Rows.Save.{save_row}
 use Rattle.fd_cli.specs.declared.answer.Answer.TheVariants.{Dump, Saved}
@@ -108,6 +110,15 @@ ReadsWhatWasDumped =
     → (save_row options keep).Does (after found dump) save → save.answer ≡ Saved number len
     → (read_row (vmcore_name number) va count).Does (after (after found dump) save) read
     → Told found.told (λ c. (m : MachineImage) × Names c source m × (read.answer ≡ bytes_answer va (kernel_read m va count)))
+
+-- `dump`, then a `savecore` that saves, then `pages` of the saved file: the image's pages, in the order of a walk
+abbrev pub ListsWhatWasDumped : Type 0
+ListsWhatWasDumped =
+    (mark : Bool) (source : Source) (options : Options) (keep : Bool) (found : Seen) (dump save pages : Work) (number len : ℕ)
+    → options.force ≡ false → IsSized found → (dump_row mark source).Does found dump → answer_status dump.answer ≡ 0
+    → (save_row options keep).Does (after found dump) save → save.answer ≡ Saved number len
+    → (pages_row (vmcore_name number)).Does (after (after found dump) save) pages
+    → Told found.told (λ c. (m : MachineImage) × Names c source m × (pages.answer ≡ pages_answer (image_walk m)))
 
 -- a site that is found as a machine left it that stopped: its partition has these bytes and sizes, its directory any files
 pub record IsFoundAs (disk : Disk) (size block : ℕ) (found : Seen) : Type 0 where

@@ -9,6 +9,7 @@ use Rattle.fd_cli.specs.Rows.Image.{image_row}
 use Rattle.fd_cli.specs.Rows.Judge.{judge_row}
 use Rattle.fd_cli.specs.Rows.Netdump.{netdump_row}
 use Rattle.fd_cli.specs.Rows.Netdumpd.{netdumpd_row}
+use Rattle.fd_cli.specs.Rows.Pages.{pages_row}
 use Rattle.fd_cli.specs.Rows.Read.{read_row}
 use Rattle.fd_cli.specs.Rows.Save.{save_row}
 use Rattle.fd_words.specs.declared.command.Command.{Command}
@@ -23,6 +24,7 @@ pub mod ImageRead
 pub mod Judge
 pub mod Netdump
 pub mod Netdumpd
+pub mod Pages
 pub mod Read
 pub mod Save
 
@@ -46,4 +48,5 @@ row_of (Some (command.Dump mark source)) = dump_row mark source
 row_of (Some (command.Netdump source server)) = netdump_row source server
 row_of (Some (command.Netdumpd dumps)) = netdumpd_row dumps
 row_of (Some (command.Read name va count)) = read_row name va count
+row_of (Some (command.Pages name)) = pages_row name
 row_of (Some (command.Drill source stop va count)) = drill_row source stop va count

@@ -1,14 +1,14 @@
 //! What follows from the rows of the commands alone.
 
 ghost use Rattle.std.specs.Prelude.{ℕ, Option};
-ghost use Rattle.fd_cli.specs.Laws.{AddsEntriesAlone, ClearedIsRefused, EachCutDumpIsSavedWhole, EachCutMarkedDumpIsSavedWhole, EachDumpIsSafe, EachMarkedDumpIsSafe, EachNetdumpIsDelivered, EachNetdumpIsReceived, EachSavecoreIsSafe, EachSavedFileIsLeft, HasTurnsAlways, IsHeadline, IsLocal, IsMarkedHeadline, IsRunAlways, IsSound, JudgeFindsDump, OnlyDoneOrFailedAdds, ReadsWhatWasDumped};
+ghost use Rattle.fd_cli.specs.Laws.{AddsEntriesAlone, ClearedIsRefused, EachCutDumpIsSavedWhole, EachCutMarkedDumpIsSavedWhole, EachDumpIsSafe, EachMarkedDumpIsSafe, EachNetdumpIsDelivered, EachNetdumpIsReceived, EachSavecoreIsSafe, EachSavedFileIsLeft, HasTurnsAlways, IsHeadline, IsLocal, IsMarkedHeadline, IsRunAlways, IsSound, JudgeFindsDump, ListsWhatWasDumped, OnlyDoneOrFailedAdds, ReadsWhatWasDumped};
 ghost use Rattle.fd_cli.specs.Rows.{row_of};
 ghost use Rattle.fd_words.specs.declared.command.Command.{Command};
 ghost use Rattle.fd_words.specs.declared.source.Source.{Source};
 
 use fd_networld::laws::a_done_client_was_served;
 use fd_save::laws::{each_cut_of_a_save_is_safe, each_save_is_saved, no_saved_file_is_touched};
-use fd_way::laws::each_read_of_a_minidump_is_the_images;
+use fd_way::laws::{each_read_of_a_minidump_is_the_images, the_walk_of_a_minidump_is_the_images};
 
 /// However a command ends that uses no network, what it added is what its row leaves.
 pub fn each_row_is_sound()
@@ -57,6 +57,14 @@ pub fn each_saved_dump_reads_as_its_image()
 {
     each_save_is_saved();
     each_read_of_a_minidump_is_the_images();
+}
+
+/// `pages` of what `dump` wrote and `savecore` saved lists the image's pages.
+pub fn each_saved_dump_lists_as_its_image()
+    ensures { ListsWhatWasDumped }
+{
+    each_save_is_saved();
+    the_walk_of_a_minidump_is_the_images();
 }
 
 /// Wherever a machine stops in a `savecore`, the dump that judging found stands: on the partition as it was, or in its

@@ -9,6 +9,7 @@ mod dump_image;
 mod invocation;
 mod judge_partition;
 pub mod laws;
+mod list_pages;
 mod make_image;
 mod netdump;
 mod netdumpd;

@@ -22,6 +22,7 @@ use crate::drill_image::drill_image;
 use crate::dump_image::dump_image;
 use crate::judge_partition::judge_partition;
 use crate::laws::{each_netdump_is_delivered, each_savecore_is_safe, each_saved_file_is_left};
+use crate::list_pages::list_pages;
 use crate::make_image::make_image;
 use crate::netdump::send_image;
 use crate::netdumpd::serve_dumps;
@@ -100,6 +101,7 @@ fn carry_out<S: Site, L: Link, P: Ports, O: Sink>(
                 count,
             },
         ) => print_memory(alloc, site, &file, address, count, out),
+        Some(Command::Pages { file }) => list_pages(alloc, site, &file, out),
         Some(
             Command::Drill {
                 image,
@@ -118,7 +120,8 @@ fn carry_out<S: Site, L: Link, P: Ports, O: Sink>(
 /// `cleared`; `savecore` saves the dump to files, marks it unless `-k` is given, and prints `saved vmcore.N LENGTH`, or is
 /// refused with 69 where no number is free. `dump IMAGE` writes the dump of a machine image, of that file or made, and prints
 /// `dumped LENGTH`; with `-i` it first marks the dump that stands there as cleared, so that no cut of it mixes the two. `read FILE ADDRESS LENGTH` prints the bytes of a saved minidump at kernel addresses, 16 a line; an address
-/// that has no byte is refused with 1. `netdump IMAGE ADDRESS` sends the dump of a machine image to the server of an IPv4 address and
+/// that has no byte is refused with 1. `pages FILE` prints a line for each dumped page of a saved minidump, and `COUNT pages`.
+/// `netdump IMAGE ADDRESS` sends the dump of a machine image to the server of an IPv4 address and
 /// prints `sent LENGTH LASTSEQNO`; a message that isn't acknowledged is refused with 1. `netdumpd DUMPS` receives so many dumps,
 /// saves them, and prints `received vmcore.N LENGTH` for each; where its turns are spent before, that is refused with 69. A partition that can't hold a dump, a file that is no image or no minidump, and a
 /// partition without room are refused with 65, words that are no command with 64. Status 74 says that the site, the

@@ -56,6 +56,10 @@ pub enum Command {
         address: u64,
         count: u32,
     },
+    /// `pages FILE`: print the dumped pages of a vmcore.
+    Pages {
+        file: Word,
+    },
     /// `drill IMAGE STOP ADDRESS LENGTH`: write the first `stop` sectors of this image's dump, save what then stands there, and
     /// print `count` bytes of the saved file from a kernel address on.
     Drill {

@@ -87,6 +87,11 @@ read k -- 1 -2|none
 read - 1 2|none
 read k 1|none
 read k 1 2 3|none
+pages vmcore.0|pages vmcore.0
+pages a/b|none
+pages -f k|none
+pages k 1|none
+pages|none
 drill @arm64:16376 110226 0xffff000000000000 16|drill made 1 16376 110226 18446462598732840960 16
 drill a.img 73 0 1048576|drill file a.img 73 0 1048576
 drill a.img 73 0 1048577|none
@@ -146,6 +151,7 @@ fn tell(alloc: Global, command: &Option<Command>) -> Result<String, Fail> {
                 count,
             },
         ) => format!(in alloc; "read {} {address} {count}", file.as_str())?,
+        Some(Command::Pages { file }) => format!(in alloc; "pages {}", file.as_str())?,
         Some(
             Command::Drill {
                 image,

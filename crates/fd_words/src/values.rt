@@ -4,7 +4,7 @@ ghost use Rattle.std.specs.Prelude.{◌≡◌, IfOk, map};
 ghost use Rattle.std.specs.Option.{option_map};
 ghost use Rattle.fd_bytes.specs.Number.{number_of};
 ghost use Rattle.fd_words.specs.Address.{address_of};
-ghost use Rattle.fd_words.specs.Command.{command_of_four, command_of_one, command_of_three, command_of_two, command_of_values, drill_of, dump_of, HasGoodNames, image_of, netdump_of, netdumpd_of, read_of};
+ghost use Rattle.fd_words.specs.Command.{command_of_four, command_of_one, command_of_three, command_of_two, command_of_values, drill_of, dump_of, HasGoodNames, image_of, netdump_of, netdumpd_of, pages_of, read_of};
 ghost use Rattle.fd_words.specs.Source.{arch_of, source_of};
 
 use crate::address::read_address;
@@ -129,6 +129,18 @@ fn read_command_of(
     }))
 }
 
+// `pages` of this file.
+fn pages_command(alloc: Global, file: &str) -> Result<Option<Command>, AllocError>
+    ensures value { IfOk result (λ command. command ≡ pages_of file.now) }
+    ensures names { IfOk result HasGoodNames }
+{
+    if !good_name(file) {
+        return Ok(None);
+    }
+    let file = Word::of(alloc, file)?;
+    Ok(Some(Command::Pages { file }))
+}
+
 // `drill` of this image.
 fn drill_command(
     alloc: Global,
@@ -170,6 +182,9 @@ fn command_of_one(alloc: Global, name: &str, value: &str) -> Result<Option<Comma
 {
     if name == "netdumpd" {
         return Ok(netdumpd_command(value));
+    }
+    if name == "pages" {
+        return pages_command(alloc, value);
     }
     Ok(None)
 }

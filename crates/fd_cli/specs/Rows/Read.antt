@@ -30,20 +30,24 @@ abbrev pub file_answer : Option (List ℕ) → (va count : ℕ) → Result Kerne
 file_answer None va count = Err vmcore.NoFile
 file_answer (Some f) va count = answer_of f va count
 
+-- the answer to a file that isn't opened
+abbrev pub RefusesFor : OpenFault → Answer → Type 0
+RefusesFor vmcore.NoFile answer = answer ≡ Refused NoFile
+RefusesFor (vmcore.Short need have) answer = answer ≡ Refused (Short need have)
+RefusesFor (vmcore.Mini fault) answer = answer ≡ Refused (Mini fault)
+RefusesFor (vmcore.BadAvail index) answer = answer ≡ Refused (BadAvail index)
+RefusesFor vmcore.SiteFault answer = ⊥
+RefusesFor vmcore.NoMemory answer = ⊥
+
 -- the answer, by what the file gives
 abbrev pub IsAnswerToFile : (va : ℕ) → Result KernelBytes OpenFault → Answer → Type 0
 IsAnswerToFile va (Ok given) answer = answer ≡ bytes_answer va given
-IsAnswerToFile va (Err vmcore.NoFile) answer = answer ≡ Refused NoFile
-IsAnswerToFile va (Err (vmcore.Short need have)) answer = answer ≡ Refused (Short need have)
-IsAnswerToFile va (Err (vmcore.Mini fault)) answer = answer ≡ Refused (Mini fault)
-IsAnswerToFile va (Err (vmcore.BadAvail index)) answer = answer ≡ Refused (BadAvail index)
-IsAnswerToFile va (Err vmcore.SiteFault) answer = ⊥
-IsAnswerToFile va (Err vmcore.NoMemory) answer = ⊥
+IsAnswerToFile va (Err fault) answer = RefusesFor fault answer
 
 -- the reply to a file that isn't opened
 abbrev pub RefusesFile : OpenFault → Result Reply Trouble → Type 0
 RefusesFile fault result =
-    IfOk result (λ reply. (answer : Answer) × ((va : ℕ) → IsAnswerToFile va (Err fault) answer) × IsReplyOf answer reply)
+    IfOk result (λ reply. (answer : Answer) × RefusesFor fault answer × IsReplyOf answer reply)
 
 -- the answer over what the site tells
 abbrev pub IsReadAnswer : Option Contents → (name : List ℕ) → (va count : ℕ) → Answer → Type 0

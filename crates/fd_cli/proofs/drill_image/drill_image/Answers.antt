@@ -1,4 +1,4 @@
-use Rattle.std.proofs.Common.{Some, Err, ap, refl, ◌∙◌}
+use Rattle.std.proofs.Common.{Some, Err, ap, refl}
 use Rattle.fd_cli.specs.Row.{reach}
 use Rattle.fd_cli.specs.Rows.Drill.{drill_row}
 use Rattle.fd_words.specs.declared.command.Command.TheVariants as command

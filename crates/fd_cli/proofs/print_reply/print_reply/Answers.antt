@@ -1,4 +1,4 @@
-use Rattle.std.proofs.Common.{Err, Ok, ap, ◌∙◌}
+use Rattle.std.proofs.Common.{ap, ◌∙◌}
 use Rattle.fd_site.specs.Trace.{grown}
 use Rattle.fd_cli.specs.Rows.{row_of}
 use Rattle.fd_cli.proofs.Calls.{answered, by_reply, ended_so, unprinted}

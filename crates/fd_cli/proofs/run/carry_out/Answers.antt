@@ -74,6 +74,11 @@ returns-in-Some-Read g c =
     let i = c.in-Some-Read in
     called_by _ _ _ _ _ (sym c.in-Ok.ensures.value ∙ i.is ∙ ap (λ (x : Command). Some x) i.field-0-is) (c.print_memory.ensures _ _)
 
+pub returns-in-Some-Pages : goal.returns-in-Some-Pages
+returns-in-Some-Pages g c =
+    let i = c.in-Some-Pages in
+    called_by _ _ _ _ _ (sym c.in-Ok.ensures.value ∙ i.is ∙ ap (λ (x : Command). Some x) i.field-0-is) (c.list_pages.ensures _ _)
+
 pub returns-in-Some-Drill : goal.returns-in-Some-Drill
 returns-in-Some-Drill g c =
     let i = c.in-Some-Drill in
