@@ -28,3 +28,5 @@ mod saves;
 mod verdicts;
 #[cfg(test)]
 mod versions;
+#[cfg(test)]
+mod walks;

@@ -1,0 +1,86 @@
+//! Lists of the pages of saved minidumps, over files in memory.
+
+use crate::partitions::{check, run, words_of};
+use crate::reads::{amd64_vmcore, failing_with_vmcore, riscv_vmcore, with_u32, with_vmcore};
+use fd_fake::{MemSink, MemSite};
+use std::alloc::Global;
+use std::process::Abort;
+use std::test::Fail;
+
+// The pages of the minidump of amd64's image.
+static OF_AMD64: &str = "\
+00000000401ff000 fffffe00001ff000 fffff800401ff000 rwx 36864
+0000000040200000 fffffe0000200000 fffff80040200000 rwx 40960
+0000000000104000 fffffe0040000000 fffff80000104000 rwx 28672
+0000000000105000 fffffe0040001000 fffff80000105000 r-- 32768
+0000000000100000 - fffff80000100000 rw- 20480
+0000000000103000 - fffff80000103000 rw- 24576
+6 pages
+";
+
+// The pages of the minidump of riscv's image, where its ranges are read as the bitmap.
+static WITHOUT_RANGES: &str = "\
+000000000001f000 - - rw- 16384
+000000000004d000 - - rw- 20480
+000000000004e000 - - rw- 24576
+000000000005f000 - - rw- 28672
+4 pages
+";
+
+fn lists(rt: &impl Abort, alloc: Global, vmcore: Vec<u8>, text: &str) -> Result<(), Fail> {
+    let mut site = with_vmcore(alloc, vmcore)?;
+    check(rt, alloc, &mut site, &["pages", "vmcore.0"], 0, text)
+}
+
+#[test]
+fn the_pages_of_amd64_are_listed(rt: HostRuntime) -> Result<(), Fail> {
+    let alloc = rt.alloc();
+    lists(&rt, alloc, amd64_vmcore(&rt, alloc)?, OF_AMD64)
+}
+
+#[test]
+fn pages_of_a_file_without_ranges_are_listed(rt: HostRuntime) -> Result<(), Fail> {
+    let alloc = rt.alloc();
+    let vmcore = riscv_vmcore(&rt, alloc)?;
+    lists(&rt, alloc, with_u32(alloc, &vmcore, 72, 0)?, WITHOUT_RANGES)
+}
+
+// Lists the pages where one call fails, and gives how many bytes were printed.
+fn printed_of(rt: &impl Abort, alloc: Global, site: &mut MemSite) -> Result<usize, Fail> {
+    let words = words_of(alloc, &["pages", "vmcore.0"])?;
+    let mut out = MemSink::new(alloc, Vec::new(alloc));
+    assert_eq!(rt; run(alloc, &words, site, &mut out), 74);
+    assert!(rt; OF_AMD64.as_bytes().starts_with(out.bytes()));
+    assert_eq!(rt; site.starved(), 0);
+    Ok(out.bytes().len())
+}
+
+fn fails_at(rt: &impl Abort, alloc: Global, vmcore: &[u8], failing: u64) -> Result<usize, Fail> {
+    let mut site = failing_with_vmcore(alloc, vmcore, failing)?;
+    printed_of(rt, alloc, &mut site)
+}
+
+// How many calls the list takes.
+fn calls_of_list(rt: &impl Abort, alloc: Global, vmcore: &[u8]) -> Result<u64, Fail> {
+    let mut site = failing_with_vmcore(alloc, vmcore, 0)?;
+    check(rt, alloc, &mut site, &["pages", "vmcore.0"], 0, OF_AMD64)?;
+    Ok(site.calls())
+}
+
+// Where the first call fails nothing is printed; where the last one does, some lines are.
+fn fails_at_each_call(rt: &impl Abort, alloc: Global, vmcore: &[u8]) -> Result<(), Fail> {
+    let calls = calls_of_list(rt, alloc, vmcore)?;
+    assert!(rt; calls > 1);
+    for failing in 1..=calls {
+        let printed = fails_at(rt, alloc, vmcore, failing)?;
+        assert!(rt; failing > 1 || printed == 0);
+        assert!(rt; failing < calls || printed > 0);
+    }
+    Ok(())
+}
+
+#[test]
+fn a_list_of_which_any_call_fails_is_cut(rt: HostRuntime) -> Result<(), Fail> {
+    let alloc = rt.alloc();
+    fails_at_each_call(&rt, alloc, &amd64_vmcore(&rt, alloc)?)
+}
