@@ -19,6 +19,8 @@ mod marks;
 #[cfg(test)]
 mod networks;
 #[cfg(test)]
+mod no_net;
+#[cfg(test)]
 mod partitions;
 #[cfg(test)]
 mod reads;

@@ -2,10 +2,11 @@
 
 use crate::dumps::with_image;
 use crate::image_files::riscv_image;
+use crate::no_net::NoNet;
 use crate::partitions::{check, partition, words_of};
 use fd_cli::{Word, crashway};
 use fd_fake::{Answer, LinkEvent, MemLink, MemSink};
-use fd_site::{Failed, Link, NoNet, Peer, Ports, Site, Taken};
+use fd_site::{Failed, Link, Peer, Ports, Site, Taken};
 use std::alloc::{AllocError, Global};
 use std::process::Abort;
 use std::test::Fail;

@@ -3,11 +3,12 @@
 ghost use Rattle.std.specs.Prelude.{◌≡◌, [], length, IfOk};
 ghost use Rattle.fd_kdh.specs.Header.{FitsFields};
 
+use crate::no_net::NoNet;
 use fd_bytes::{Arch, Label};
 use fd_cli::{Word, crashway};
 use fd_fake::{MemSink, MemSite};
 use fd_kdh::Header;
-use fd_site::{NoNet, Site};
+use fd_site::Site;
 use std::alloc::{AllocError, Global};
 use std::process::Abort;
 use std::test::Fail;
