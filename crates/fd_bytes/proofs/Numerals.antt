@@ -20,7 +20,10 @@ shifted radix value digit n rest = rw pow-suc (omega arith)
 -- the next digit is taken up into the number
 worth-drop : (radix value : ℕ) (digits : List ℕ) (i : ℕ) → i < length digits → worth radix (value * radix + digit_value (get_or digits i 0)) (drop (i + 1) digits) ≡ worth radix value (drop i digits)
 unfolding worth
-worth-drop radix value digits i inside = rw (add-one, drop-cons digits i 0 inside) (sym (shifted radix value (digit_value (get_or digits i 0)) (length (drop (suc i) digits)) (place_value radix (drop (suc i) digits))))
+worth-drop radix value digits i inside =
+    rw (add-one, drop-cons digits i 0 inside)
+    (sym (shifted radix value (digit_value (get_or digits i 0)) (length (drop (suc i) digits))
+    (place_value radix (drop (suc i) digits))))
 
 -- no digit makes it smaller
 worth-le : (radix value : ℕ) (digits : List ℕ) → 1 ≤ radix → value ≤ worth radix value digits
@@ -54,7 +57,9 @@ unfolding numeral
 numeral-large radix most text large = grind (arith, nat_tests)
 
 -- and what it spells, where it is one
-numeral-some : (radix most value : ℕ) (text : List ℕ) → 0 < length text → length text ≤ most → list_all (λ c. is_digit c radix) text ≡ true → place_value radix text ≡ value → value < 2 ^ 64 → numeral radix most text ≡ Some value
+numeral-some : (radix most value : ℕ) (text : List ℕ) → 0 < length text → length text ≤ most →
+    list_all (λ c. is_digit c radix) text ≡ true → place_value radix text ≡ value → value < 2 ^ 64 →
+    numeral radix most text ≡ Some value
 unfolding numeral
 numeral-some radix most value text some short digits is small = grind (arith, nat_tests)
 
@@ -66,13 +71,18 @@ numeral-other_at radix most text i inside other =
     not_below : (a b : ℕ) → (a < b → ⊥) → nat_lt a b ≡ false
     not_below a b other = grind (arith, nat_tests)
 
-pub numeral-over : (radix most value digit : ℕ) (text : List ℕ) (i : ℕ) → i < length text → 1 ≤ radix → worth radix value (drop i text) ≡ place_value radix text → digit ≡ digit_value (get_or text i 0) → 2 ^ 64 ≤ value * radix + digit → numeral radix most text ≡ None
+pub numeral-over : (radix most value digit : ℕ) (text : List ℕ) (i : ℕ) → i < length text → 1 ≤ radix →
+    worth radix value (drop i text) ≡ place_value radix text → digit ≡ digit_value (get_or text i 0) →
+    2 ^ 64 ≤ value * radix + digit → numeral radix most text ≡ None
 numeral-over radix most value digit text i inside some so_far is over =
-    let next : worth radix (value * radix + digit) (drop (i + 1) text) ≡ place_value radix text = ap (λ d. worth radix (value * radix + d) (drop (i + 1) text)) is ∙ worth-drop radix value text i inside ∙ so_far in
+    let next : worth radix (value * radix + digit) (drop (i + 1) text) ≡ place_value radix text =
+    ap (λ d. worth radix (value * radix + d) (drop (i + 1) text)) is ∙ worth-drop radix value text i inside ∙ so_far in
     let grows : value * radix + digit ≤ worth radix (value * radix + digit) (drop (i + 1) text) = worth-le radix (value * radix + digit) (drop (i + 1) text) some in
     numeral-large radix most text (omega arith)
 
-pub numeral-read : (radix most value : ℕ) (text : List ℕ) (i : ℕ) → 0 < length text → length text ≤ most → length text ≤ i → list_all (λ c. is_digit c radix) (take i text) ≡ true → worth radix value (drop i text) ≡ place_value radix text → value < 2 ^ 64 → numeral radix most text ≡ Some value
+pub numeral-read : (radix most value : ℕ) (text : List ℕ) (i : ℕ) → 0 < length text → length text ≤ most → length text ≤ i →
+    list_all (λ c. is_digit c radix) (take i text) ≡ true → worth radix value (drop i text) ≡ place_value radix text →
+    value < 2 ^ 64 → numeral radix most text ≡ Some value
 numeral-read radix most value text i some short all digits so_far small =
     numeral-some radix most value text some short
     (ap (λ (l : List ℕ). list_all (λ c. is_digit c radix) l) (sym (take_all i text all)) ∙ digits)
@@ -82,12 +92,16 @@ below : (a b : ℕ) → a < b → nat_lt a b ≡ true
 below a b less = grind (arith, nat_tests)
 
 -- one digit more
-pub all_digits-more : (radix : ℕ) (text : List ℕ) (i : ℕ) → i < length text → list_all (λ c. is_digit c radix) (take i text) ≡ true → digit_value (get_or text i 0) < radix → list_all (λ c. is_digit c radix) (take (i + 1) text) ≡ true
+pub all_digits-more : (radix : ℕ) (text : List ℕ) (i : ℕ) → i < length text →
+    list_all (λ c. is_digit c radix) (take i text) ≡ true → digit_value (get_or text i 0) < radix →
+    list_all (λ c. is_digit c radix) (take (i + 1) text) ≡ true
 all_digits-more radix text i inside digits digit =
     list_all_more (λ c. is_digit c radix) text i 0 inside
     ∙ (λ j. digits j && below (digit_value (get_or text i 0)) radix digit j)
 
-pub worth-more : (radix value digit next : ℕ) (text : List ℕ) (i : ℕ) → i < length text → worth radix value (drop i text) ≡ place_value radix text → digit ≡ digit_value (get_or text i 0) → next ≡ value * radix + digit → worth radix next (drop (i + 1) text) ≡ place_value radix text
+pub worth-more : (radix value digit next : ℕ) (text : List ℕ) (i : ℕ) → i < length text →
+    worth radix value (drop i text) ≡ place_value radix text → digit ≡ digit_value (get_or text i 0) →
+    next ≡ value * radix + digit → worth radix next (drop (i + 1) text) ≡ place_value radix text
 worth-more radix value digit next text i inside so_far is sum =
     ap (λ n. worth radix n (drop (i + 1) text)) (sum ∙ ap (λ d. value * radix + d) is) ∙ worth-drop radix value text i inside ∙ so_far
 

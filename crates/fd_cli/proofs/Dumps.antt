@@ -123,7 +123,8 @@ dump_done old new mark m body h len done reply body_is h_is len_is room adds is 
       entries = adds.0;
       does = on_true _ _ _ (has_its_room old (length (minidump_of m)) never _ refl) (record {
         answer = refl;
-        is_dump = subst (λ b. IsDumpOver mark old.told old.size old.block b (header_of m old.block) adds.0) body_is (subst (λ k. IsDumpOver mark old.told old.size old.block body k adds.0) h_is adds.1);
+        is_dump = subst (λ b. IsDumpOver mark old.told old.size old.block b (header_of m old.block) adds.0) body_is
+            (subst (λ k. IsDumpOver mark old.told old.size old.block body k adds.0) h_is adds.1);
         alone = refl;
       });
       told = adds.2;

@@ -131,7 +131,8 @@ sound (Some (command.Drill source stop va count)) local = record {
 }
 
 -- a command whose work adds something ends with 0
-adds_with_zero : (command : Option Command) (found : Seen) (w : Work) → IsOneStep command → IsLocal (row_of command) → (row_of command).Does found w → (answer_status w.answer ≡ 0) ⊎ (w.added ≡ nothing)
+adds_with_zero : (command : Option Command) (found : Seen) (w : Work) → IsOneStep command → IsLocal (row_of command) →
+    (row_of command).Does found w → (answer_status w.answer ≡ 0) ⊎ (w.added ≡ nothing)
 adds_with_zero None found w one local does = inr (ap (λ x. x.added) does)
 adds_with_zero (Some (command.Image arch number file)) found w one local does = inl (ap answer_status does.answer)
 adds_with_zero (Some (command.Judge force)) found w one local does = inr (judge_adds_nothing force found w does)

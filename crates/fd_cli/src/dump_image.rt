@@ -64,11 +64,17 @@ fn write_over<S: Site, P: Pieces>(
     requires small { length (P.to_come pieces.old) ≤ 2 ^ 62 }
     requires labels { FitsFields header.now }
     requires blocksize { header.now.blocksize ≡ (S.seen site.old).block }
-    ensures room { (S.seen site.old).size < need_of (S.seen site.old).block (length (P.to_come pieces.old)) → IsErrOf result (PartFault.NoRoom (record { need = need_of (S.seen site.old).block (length (P.to_come pieces.old)); have = (S.seen site.old).size })) }
+    ensures room { (S.seen site.old).size < need_of (S.seen site.old).block (length (P.to_come pieces.old)) →
+        IsErrOf result (PartFault.NoRoom
+        (record { need = need_of (S.seen site.old).block (length (P.to_come pieces.old)); have = (S.seen site.old).size })) }
     ensures no_room { OnLacking result ((S.seen site.old).size < need_of (S.seen site.old).block (length (P.to_come pieces.old))) }
     ensures untouched { OnLacking result (site.new ≡ site.old) }
-    ensures whole { OnOk result (Adds (IsDumpOver mark (S.seen site.old).told (S.seen site.old).size (S.seen site.old).block (P.to_come pieces.old) header.now) (S.seen site.old).told (S.seen site.new).told) }
-    ensures fault { IsErrOf result PartFault.SiteFault → Adds (IsBegunOver mark (S.seen site.old).told (S.seen site.old).size (S.seen site.old).block (P.to_come pieces.old) header.now) (S.seen site.old).told (S.seen site.new).told }
+    ensures whole { OnOk result
+        (Adds (IsDumpOver mark (S.seen site.old).told (S.seen site.old).size (S.seen site.old).block
+        (P.to_come pieces.old) header.now) (S.seen site.old).told (S.seen site.new).told) }
+    ensures fault { IsErrOf result PartFault.SiteFault →
+        Adds (IsBegunOver mark (S.seen site.old).told (S.seen site.old).size (S.seen site.old).block
+        (P.to_come pieces.old) header.now) (S.seen site.old).told (S.seen site.new).told }
     ensures frame { Frame (S.seen site.old) (S.seen site.new) }
     ensures cause { IsErrOf result PartFault.SiteFault → Rose (S.seen site.old).faults (S.seen site.new).faults }
 {

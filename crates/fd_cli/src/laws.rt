@@ -1,7 +1,10 @@
 //! What follows from the rows of the commands alone.
 
 ghost use Rattle.std.specs.Prelude.{ℕ, Option};
-ghost use Rattle.fd_cli.specs.Laws.{AddsEntriesAlone, ClearedIsRefused, EachCutDumpIsSavedWhole, EachCutMarkedDumpIsSavedWhole, EachDumpIsSafe, EachMarkedDumpIsSafe, EachNetdumpIsDelivered, EachNetdumpIsReceived, EachSavecoreIsSafe, EachSavedFileIsLeft, HasTurnsAlways, IsHeadline, IsLocal, IsMarkedHeadline, IsRunAlways, IsSound, JudgeFindsDump, ListsWhatWasDumped, OnlyDoneOrFailedAdds, ReadsWhatWasDumped};
+ghost use Rattle.fd_cli.specs.Laws.{AddsEntriesAlone, ClearedIsRefused, EachCutDumpIsSavedWhole, EachCutMarkedDumpIsSavedWhole};
+ghost use Rattle.fd_cli.specs.Laws.{EachDumpIsSafe, EachMarkedDumpIsSafe, EachNetdumpIsDelivered, EachNetdumpIsReceived};
+ghost use Rattle.fd_cli.specs.Laws.{EachSavecoreIsSafe, EachSavedFileIsLeft, HasTurnsAlways, IsHeadline, IsLocal, IsMarkedHeadline};
+ghost use Rattle.fd_cli.specs.Laws.{IsRunAlways, IsSound, JudgeFindsDump, ListsWhatWasDumped, OnlyDoneOrFailedAdds, ReadsWhatWasDumped};
 ghost use Rattle.fd_cli.specs.Rows.{row_of};
 ghost use Rattle.fd_words.specs.declared.command.Command.{Command};
 ghost use Rattle.fd_words.specs.declared.source.Source.{Source};

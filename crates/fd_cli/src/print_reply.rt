@@ -14,7 +14,9 @@ use fd_site::Sink;
 /// Prints what a command replied, and answers the status that follows. A reply is printed as a whole, behind the command's
 /// work, and without one nothing is.
 pub(crate) fn print_reply<O: Sink>(reply: Result<Reply, Trouble>, out: &mut O) -> u8
-    ensures { (command : Option Command) (old new : Reach) → Worked (row_of command) old new reply → Call (row_of command) (record { reach = old; sink = O.seen out.old }) (record { reach = new; sink = O.seen out.new }) result }
+    ensures { (command : Option Command) (old new : Reach) → Worked (row_of command) old new reply →
+        Call (row_of command) (record { reach = old; sink = O.seen out.old }) (record { reach = new; sink = O.seen out.new })
+        result }
 {
     let reply = match reply {
         Ok(reply) => reply,

@@ -69,7 +69,9 @@ fn carry_out<S: Site, L: Link, P: Ports, O: Sink>(
     ports: &mut P,
     out: &mut O,
 ) -> u8
-    ensures { Call (row_of (command_of words.now)) (outside (S.seen site.old) (L.seen link.old) (P.seen ports.old) (O.seen out.old)) (outside (S.seen site.new) (L.seen link.new) (P.seen ports.new) (O.seen out.new)) result }
+    ensures { Call (row_of (command_of words.now))
+        (outside (S.seen site.old) (L.seen link.old) (P.seen ports.old) (O.seen out.old))
+        (outside (S.seen site.new) (L.seen link.new) (P.seen ports.new) (O.seen out.new)) result }
 {
     let command = match read_command(alloc, words) {
         Ok(command) => command,
@@ -135,14 +137,23 @@ pub fn crashway<S: Site, L: Link, P: Ports, O: Sink>(
     ports: &mut P,
     out: &mut O,
 ) -> u8
-    ensures call { Call (row_of (command_of words.now)) (outside (S.seen site.old) (L.seen link.old) (P.seen ports.old) (O.seen out.old)) (outside (S.seen site.new) (L.seen link.new) (P.seen ports.new) (O.seen out.new)) result }
+    ensures call { Call (row_of (command_of words.now))
+        (outside (S.seen site.old) (L.seen link.old) (P.seen ports.old) (O.seen out.old))
+        (outside (S.seen site.new) (L.seen link.new) (P.seen ports.new) (O.seen out.new)) result }
     ensures crash { (source : Source) → command_of words.now ≡ Some (command.Dump false source) → EachCutOf (S.seen site.old).told (S.seen site.new).told (IsCutOfDump source (S.seen site.old).block) }
-    ensures marked { (source : Source) → command_of words.now ≡ Some (command.Dump true source) → EachCutOf (S.seen site.old).told (S.seen site.new).told (IsCutOfMarkedDump source (S.seen site.old).block) }
-    ensures found { (mark : Bool) (source : Source) → command_of words.now ≡ Some (command.Dump mark source) → result ≡ 0 → IsFound (S.seen site.old).told (S.seen site.new).told source (S.seen site.old).block }
-    ensures stopped { (options : Options) (keep : Bool) → command_of words.now ≡ Some (command.Save options keep) → EachCutOf (S.seen site.old).told (S.seen site.new).told (IsCutOfSavecore options (S.seen site.old).block) }
+    ensures marked { (source : Source) → command_of words.now ≡ Some (command.Dump true source) →
+        EachCutOf (S.seen site.old).told (S.seen site.new).told (IsCutOfMarkedDump source (S.seen site.old).block) }
+    ensures found { (mark : Bool) (source : Source) → command_of words.now ≡ Some (command.Dump mark source) → result ≡ 0 →
+        IsFound (S.seen site.old).told (S.seen site.new).told source (S.seen site.old).block }
+    ensures stopped { (options : Options) (keep : Bool) → command_of words.now ≡ Some (command.Save options keep) →
+        EachCutOf (S.seen site.old).told (S.seen site.new).told (IsCutOfSavecore options (S.seen site.old).block) }
     ensures others { (options : Options) (keep : Bool) → command_of words.now ≡ Some (command.Save options keep) → options.max ≡ None → LeavesSavedFiles (S.seen site.old).told (S.seen site.new).told }
-    ensures delivered { (source : Source) (server : ℕ) → command_of words.now ≡ Some (command.Netdump source server) → result ≡ 0 → IsDeliveredTo source server (S.seen site.old) (L.seen link.old).told (L.seen link.new).told }
-    ensures reads { (name : List ℕ) (va count : ℕ) → command_of words.now ≡ Some (command.Read name va count) → OfImage (S.seen site.old) name (λ m. Ends (image_read_row m va count) (outside (S.seen site.old) (L.seen link.old) (P.seen ports.old) (O.seen out.old)) (outside (S.seen site.new) (L.seen link.new) (P.seen ports.new) (O.seen out.new)) result) }
+    ensures delivered { (source : Source) (server : ℕ) → command_of words.now ≡ Some (command.Netdump source server) →
+        result ≡ 0 → IsDeliveredTo source server (S.seen site.old) (L.seen link.old).told (L.seen link.new).told }
+    ensures reads { (name : List ℕ) (va count : ℕ) → command_of words.now ≡ Some (command.Read name va count) →
+        OfImage (S.seen site.old) name
+        (λ m. Ends (image_read_row m va count) (outside (S.seen site.old) (L.seen link.old) (P.seen ports.old) (O.seen out.old))
+        (outside (S.seen site.new) (L.seen link.new) (P.seen ports.new) (O.seen out.new)) result) }
 {
     each_read_of_a_minidump_is_the_images();
     each_netdump_is_delivered();

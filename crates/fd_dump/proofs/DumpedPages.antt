@@ -271,7 +271,8 @@ aligned_page : (page : Option ℕ) (pa : ℕ) → option_map (λ page. page * 40
 aligned_page None pa is = absurd cc
 aligned_page (Some page) pa is = let same : page * 4096 ≡ pa = cc in omega arith
 
-pub run_lent : (plan : Planned) (m : MachineImage) (rank bit pa most : ℕ) (bytes : List ℕ) → IsPlanOf plan m → IsRun plan bit pa most → 0 < most → set_count (take bit plan.bits) ≡ rank → bytes ≡ pages_from m pa most
+pub run_lent : (plan : Planned) (m : MachineImage) (rank bit pa most : ℕ) (bytes : List ℕ) → IsPlanOf plan m →
+    IsRun plan bit pa most → 0 < most → set_count (take bit plan.bits) ≡ rank → bytes ≡ pages_from m pa most
     → IsLent m rank most bytes
 run_lent plan m rank bit pa most bytes is_plan run some is_rank is =
     let valid = is_plan.valid in

@@ -22,7 +22,9 @@ pairs_more pairs = rounded_up (16 * length pairs + 16) / 16 - length pairs
 filled-avail : (pairs : List (ℕ × ℕ)) → filled (avail_bytes pairs) ≡ made_of (pair_at pairs) 0 (rounded_up (16 * length pairs + 16) / 16)
 filled-avail pairs =
     append_assoc (flat_map pair_bytes pairs) (replicate 16 0) (replicate (fill_of pairs) 0)
-    ∙ ap (λ l. flat_map pair_bytes pairs ++ l) (replicate-append-replicate 16 (fill_of pairs) 0 ∙ ap (λ n. replicate n 0) zeros ∙ sym (made-zeros (pair_at pairs) 16 (0 + length pairs) (pairs_more pairs) past))
+    ∙ ap (λ l. flat_map pair_bytes pairs ++ l)
+    (replicate-append-replicate 16 (fill_of pairs) 0 ∙ ap (λ n. replicate n 0) zeros
+    ∙ sym (made-zeros (pair_at pairs) 16 (0 + length pairs) (pairs_more pairs) past))
     ∙ ap (λ l. l ++ made_of (pair_at pairs) (0 + length pairs) (pairs_more pairs)) (sym (made-listed pair_bytes pairs (0, 0)))
     ∙ sym (made-parts (pair_at pairs) 0 (length pairs) (pairs_more pairs))
     ∙ ap (made_of (pair_at pairs) 0) all

@@ -16,6 +16,7 @@ next_pages whole next count =
     ∙ ap (λ n. slice_range whole (4096 * next) (4096 * next + 4096 * count) ++ drop n whole) end
 
 -- a page before the end is one before the dumped ones or one of them
-pub rank_within : (plan : Planned) (m : MachineImage) (front next end : ℕ) → IsPlanOf plan m → 4096 * front ≡ (places_of plan.header).pages → 4096 * end ≡ length (minidump_of m) → front ≤ next → next < end
+pub rank_within : (plan : Planned) (m : MachineImage) (front next end : ℕ) → IsPlanOf plan m →
+    4096 * front ≡ (places_of plan.header).pages → 4096 * end ≡ length (minidump_of m) → front ≤ next → next < end
     → next - front < set_count plan.bits
 rank_within plan m front next end is_plan is_front is_end from to = omega (arith, length-planned plan m is_plan)

@@ -1,6 +1,7 @@
 //! A site in memory.
 
-ghost use Rattle.std.specs.Prelude.{◌≡◌, ◌⊎◌, ◌+◌, ◌≤◌, ◌↔◌, ◌++◌, [], ◌∷◌, ℕ, List, length, take, drop, true, Some, IfOk, IfSome, IsSomeAnd, IsSome, OnOk, OnErr, IsErr, IsTrue, replicate, slice_range, if◌then◌else◌};
+ghost use Rattle.std.specs.Prelude.{◌≡◌, ◌⊎◌, ◌+◌, ◌≤◌, ◌↔◌, ◌++◌, [], ◌∷◌, ℕ, List, length, take, drop, true, Some, IfOk, IfSome};
+ghost use Rattle.std.specs.Prelude.{IsSomeAnd, IsSome, OnOk, OnErr, IsErr, IsTrue, replicate, slice_range, if◌then◌else◌};
 ghost use Rattle.std.specs.Option.{option_map};
 ghost use Rattle.std.specs.Str.{bytes_eq};
 ghost use Rattle.fd_site.specs.Contents.{IsSectors, Told, file_of, whole_part};
@@ -75,7 +76,14 @@ impl MemSite {
     pub fn preset_part(&mut self, at: u64, bytes: &[u8])
         requires fresh { self.old.disk.journal ≡ [] }
         requires inside { at + length bytes.now ≤ length self.old.disk.base_part }
-        ensures part { self.new ≡ record self.old { disk = record self.old.disk { base_part = take at self.old.disk.base_part ++ (bytes.now ++ drop (length bytes.now) (drop at self.old.disk.base_part)) } } }
+        ensures part { self.new
+            ≡ record self.old {
+              disk =
+                  record self.old.disk {
+                    base_part = take at self.old.disk.base_part ++
+                        (bytes.now ++ drop (length bytes.now) (drop at self.old.disk.base_part));
+                  };
+            } }
         ensures size { length self.new.disk.base_part ≡ length self.old.disk.base_part }
         ensures journal { self.new.disk.journal ≡ [] }
     {

@@ -113,7 +113,10 @@ impl<'a, S: Site> Site for StopSite<'a, S> {
         ensures cause { OnErr result (Rose (seen_of S.seen self.old).faults (seen_of S.seen self.new).faults) }
         ensures fits { OnOk result (length bytes.now ≤ (state_of self.old).left * 512) }
         ensures ok_state { OnOk result (state_of self.new ≡ after_passing (state_of self.old) bytes.now) }
-        ensures err_state { OnErr result ((state_of self.new ≡ record (after_passing (state_of self.old) bytes.now) { inner_failed = true }) ⊎ Stops (state_of self.old) (state_of self.new) (seen_of S.seen self.old).told (seen_of S.seen self.new).told at bytes.now) }
+        ensures err_state { OnErr result
+            ((state_of self.new ≡ record (after_passing (state_of self.old) bytes.now) { inner_failed = true })
+            ⊎ Stops (state_of self.old) (state_of self.new) (seen_of S.seen self.old).told (seen_of S.seen self.new).told at
+            bytes.now) }
     {
         let sectors = bytes.len() as u64 / 512;
         let passed = self.left;

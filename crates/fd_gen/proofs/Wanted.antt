@@ -56,7 +56,12 @@ module _ (pages : ℕ) (few : pages < 2 ^ 15) where
   unfolding wanted_pages
   wanted_pages-few =
       let wanted = filter (λ page. page % 6 == 2) (range_with_len 0 pages) in
-      omega (arith, length-map wanted (data_address pages), length-filter_both (λ page. page % 6 == 2) (λ page. not (page % 6 == 2)) (λ page. refl) (range_with_len 0 pages), length-range_with_len 0 pages)
+      omega (
+        arith,
+        length-map wanted (data_address pages),
+        length-filter_both (λ page. page % 6 == 2) (λ page. not (page % 6 == 2)) (λ page. refl) (range_with_len 0 pages),
+        length-range_with_len 0 pages,
+      )
 
 -- one page more is looked at
 chosen-more : (f : ℕ → ℕ) (test : ℕ → Bool) (count : ℕ)
@@ -75,11 +80,17 @@ wanted_among-taken pages count address now next is third place pushed =
     let test : (count % 6 == 2) ≡ true = grind (arith, nat_tests) in
     pushed
     ∙ ((λ i. is i ++ place i ∷ [])
-    ∙ ap (λ l. 0x8000_0000 ∷ l) (sym (chosen-more (data_address pages) (λ page. page % 6 == 2) count ∙ ap (λ b. map (data_address pages) (filter (λ page. page % 6 == 2) (range_with_len 0 count)) ++ map (data_address pages) (cond b (count ∷ []) [])) test)))
+    ∙ ap (λ l. 0x8000_0000 ∷ l)
+    (sym (chosen-more (data_address pages) (λ page. page % 6 == 2) count
+    ∙ ap (λ b. map (data_address pages) (filter (λ page. page % 6 == 2) (range_with_len 0 count)) ++ map
+    (data_address pages) (cond b (count ∷ []) [])) test)))
 
 pub wanted_among-passed : (pages count : ℕ) (now : List ℕ) → now ≡ wanted_among pages count → (count % 6 ≡ 2 → ⊥) → now ≡ wanted_among pages (count + 1)
 wanted_among-passed pages count now is other =
     let test : (count % 6 == 2) ≡ false = grind (arith, nat_tests) in
     is
-    ∙ ap (λ l. 0x8000_0000 ∷ l) (sym (chosen-more (data_address pages) (λ page. page % 6 == 2) count ∙ (ap (λ b. map (data_address pages) (filter (λ page. page % 6 == 2) (range_with_len 0 count)) ++ map (data_address pages) (cond b (count ∷ []) [])) test
+    ∙ ap (λ l. 0x8000_0000 ∷ l)
+    (sym (chosen-more (data_address pages) (λ page. page % 6 == 2) count
+    ∙ (ap (λ b. map (data_address pages) (filter (λ page. page % 6 == 2) (range_with_len 0 count)) ++ map
+    (data_address pages) (cond b (count ∷ []) [])) test
     ∙ append-nil (map (data_address pages) (filter (λ page. page % 6 == 2) (range_with_len 0 count))))))

@@ -1,6 +1,9 @@
 //! The rules of a valid image: each function answers the least place that breaks its rule.
 ghost use Rattle.std.specs.Prelude.{◌≡◌, nat_le, length, sum_by};
-ghost use Rattle.fd_image.specs.Image.{first_failing, end_of, kernel_end, kernel_start_of, direct_map_end, unless, missing_segment, is_whole_pages, ragged_segment, segment_out_of_order, segment_past_end, has_texts_within_limits, is_within_limits, is_range_of_pages, ragged_pair, pair_out_of_order, lies_in_segment, pair_outside, bad_wanted_page, bad_root, is_kernel_window, is_in_kernel_space, is_direct_map, are_apart, is_known_paging, first_breach, broken_rule};
+ghost use Rattle.fd_image.specs.Image.{first_failing, end_of, kernel_end, kernel_start_of, direct_map_end, unless, missing_segment, is_whole_pages};
+ghost use Rattle.fd_image.specs.Image.{ragged_segment, segment_out_of_order, segment_past_end, has_texts_within_limits, is_within_limits};
+ghost use Rattle.fd_image.specs.Image.{is_range_of_pages, ragged_pair, pair_out_of_order, lies_in_segment, pair_outside, bad_wanted_page, bad_root};
+ghost use Rattle.fd_image.specs.Image.{is_kernel_window, is_in_kernel_space, is_direct_map, are_apart, is_known_paging, first_breach, broken_rule};
 
 use crate::parts::{Parts, Seg, Texts, Windows};
 use fd_bytes::Arch;

@@ -146,7 +146,8 @@ one_texts : (a b c d : List ℕ) (t : ℕ) (a' b' c' d' : List ℕ) (t' : ℕ) �
     (let x : Texts = record { host = a; version = b; panic = c; msgbuf = d; time = t } in x) ≡ record { host = a'; version = b'; panic = c'; msgbuf = d'; time = t' }
 one_texts a b c d t a' b' c' d' t' ea eb ec ed et = rw (ea, eb, ec, ed, et) refl
 
-one_image : (a a' : Arch) (p p' : Bool) (s s' : List Seg) (v v' : List (ℕ × ℕ)) (w w' : List ℕ) (r r' : ℕ) (k k' : Windows) (t t' : Texts) → a ≡ a' → p ≡ p' → s ≡ s' → v ≡ v' → w ≡ w' → r ≡ r' → k ≡ k' → t ≡ t' →
+one_image : (a a' : Arch) (p p' : Bool) (s s' : List Seg) (v v' : List (ℕ × ℕ)) (w w' : List ℕ) (r r' : ℕ) (k k' : Windows)
+    (t t' : Texts) → a ≡ a' → p ≡ p' → s ≡ s' → v ≡ v' → w ≡ w' → r ≡ r' → k ≡ k' → t ≡ t' →
     (let x : MachineImage = record { arch = a; sv48 = p; segs = s; avail = v; wanted = w; root = r; windows = k; texts = t } in x)
     ≡ record { arch = a'; sv48 = p'; segs = s'; avail = v'; wanted = w'; root = r'; windows = k'; texts = t' }
 one_image a a' p p' s s' v v' w w' r r' k k' t t' ea ep es ev ew er ek et = rw (ea, ep, es, ev, ew, er, ek, et) refl

@@ -77,7 +77,8 @@ pub(crate) fn spelled(front: &Front) -> Page<112>
 
 fn put_counts(page: &mut Page<112>, front: &Front)
     requires { length page.old ≡ 24 }
-    ensures bytes { page.new ≡ page.old ++ (u32 front.now.segs ++ u32 front.now.avail ++ u32 front.now.wanted) ++ (u32 front.now.host ++ u32 front.now.version ++ u32 front.now.panic ++ u32 front.now.msgbuf) }
+    ensures bytes { page.new ≡ page.old ++ (u32 front.now.segs ++ u32 front.now.avail ++ u32 front.now.wanted) ++
+        (u32 front.now.host ++ u32 front.now.version ++ u32 front.now.panic ++ u32 front.now.msgbuf) }
     ensures len { length page.new ≡ 52 }
 {
     page.put_u32_le(front.segs);

@@ -8,7 +8,9 @@ use Rattle.fd_vmcore.proofs.Opened.{one_more_set}
 use Rattle.fd_kvm.specs.Parts.{HasNumber, first_place}
 use Rattle.fd_kvm.specs.declared.page.Page.{Page}
 
-numbered_if : (s : Sections) (found : Bool) (bit place : ℕ) (page : Page) → has_bit s.bits bit ≡ found → (if found then Some (first_place s + 4096 * set_count (take bit s.bits)) else None) ≡ Some place → page.offset ≡ place → HasNumber s page
+numbered_if : (s : Sections) (found : Bool) (bit place : ℕ) (page : Page) → has_bit s.bits bit ≡ found →
+    (if found then Some (first_place s + 4096 * set_count (take bit s.bits)) else None) ≡ Some place → page.offset ≡ place →
+    HasNumber s page
 numbered_if s false bit place page set is same = absurd (cc)
 numbered_if s true bit place page set is same =
     let e : first_place s + 4096 * set_count (take bit s.bits) ≡ place = cc in

@@ -1,5 +1,6 @@
 -- The pages that aren't marked are those that the kernel window doesn't map.
-use Rattle.std.proofs.Common.{◌≡◌, ℕ, zero, suc, ◌+◌, ◌*◌, ◌<◌, Bool, true, false, ◌||◌, not, if◌then◌else◌, List, ◌∷◌, ◌++◌, length, take, filter, replicate, Option, Some, None, Result, Ok, Err, IsErr, OnErr, refl, sym, ap, subst, ◌∙◌, arith, append_assoc}
+use Rattle.std.proofs.Common.{◌≡◌, ℕ, zero, suc, ◌+◌, ◌*◌, ◌<◌, Bool, true, false, ◌||◌, not, if◌then◌else◌, List, ◌∷◌, ◌++◌, length, take, filter}
+use Rattle.std.proofs.Common.{replicate, Option, Some, None, Result, Ok, Err, IsErr, OnErr, refl, sym, ap, subst, ◌∙◌, arith, append_assoc}
 use Rattle.std.specs.Prelude.{slice_get, unwrap_or}
 use Rattle.std.specs.List.{cons_option, filter_map, range_with_len}
 use Rattle.std.specs.Option.{option_map, option_and_then}
@@ -18,11 +19,13 @@ use Rattle.fd_kvm.specs.declared.page.Page.{Page}
 use Rattle.fd_kvm.proofs.Visited.{mapped_same}
 
 -- how many bits are set below the next bit
-pub count_yes : (bits map : List Bool) (bit : ℕ) (has : Bool) → map ≡ bits → has ≡ unwrap_or (slice_get map bit) false → has ≡ true → bit < length bits → set_count (take (bit + 1) bits) ≡ set_count (take bit bits) + 1
+pub count_yes : (bits map : List Bool) (bit : ℕ) (has : Bool) → map ≡ bits → has ≡ unwrap_or (slice_get map bit) false →
+    has ≡ true → bit < length bits → set_count (take (bit + 1) bits) ≡ set_count (take bit bits) + 1
 count_yes bits map bit has same is here within =
     count_by_more_yes (λ (b : Bool). b) bits bit false within (sym (unwrap_or-slice_get bits bit false) ∙ ap (λ (l : List Bool). unwrap_or (slice_get l bit) false) (sym same) ∙ sym is ∙ here)
 
-pub count_no : (bits map : List Bool) (bit : ℕ) (has : Bool) → map ≡ bits → has ≡ unwrap_or (slice_get map bit) false → has ≡ false → bit < length bits → set_count (take (bit + 1) bits) ≡ set_count (take bit bits)
+pub count_no : (bits map : List Bool) (bit : ℕ) (has : Bool) → map ≡ bits → has ≡ unwrap_or (slice_get map bit) false →
+    has ≡ false → bit < length bits → set_count (take (bit + 1) bits) ≡ set_count (take bit bits)
 count_no bits map bit has same is here within =
     count_by_more_no (λ (b : Bool). b) bits bit false within (sym (unwrap_or-slice_get bits bit false) ∙ ap (λ (l : List Bool). unwrap_or (slice_get l bit) false) (sym same) ∙ sym is ∙ here)
 
@@ -40,7 +43,8 @@ unfolding kept
 filter_kept test None items = refl
 filter_kept test (Some x) items = by_test (test x) x (filter test items)
 
-filter_mapped : {X : Type 0} (test : X → Bool) (h : ℕ → Option X) (first count : ℕ) → filter test (filter_map h (range_with_len first count)) ≡ filter_map (λ n. kept test (h n)) (range_with_len first count)
+filter_mapped : {X : Type 0} (test : X → Bool) (h : ℕ → Option X) (first count : ℕ) →
+    filter test (filter_map h (range_with_len first count)) ≡ filter_map (λ n. kept test (h n)) (range_with_len first count)
 filter_mapped test h first zero = refl
 filter_mapped test h first (suc count) =
     filter_kept test (h first) (filter_map h (range_with_len (first + 1) count)) ∙ ap (cons_option (kept test (h first))) (filter_mapped test h (first + 1) count)
@@ -65,7 +69,9 @@ module _ (s : Sections) (pages : List Page) (marks : List Bool) (marked : AreMar
 
   by_address : (bit : ℕ) (set : Bool) (address : Option ℕ) → has_bit s.bits bit ≡ set
       → kept listed (option_and_then (λ pa. option_map (page_at s.header pa None 3) (if set then Some (first_place s + 4096 * set_count (take bit s.bits)) else None)) address)
-      ≡ unless_marked marks (set_count (take bit s.bits)) (option_and_then (λ pa. option_map (page_at s.header pa None 3) (if set then Some (first_place s + 4096 * set_count (take bit s.bits)) else None)) address)
+      ≡ unless_marked marks (set_count (take bit s.bits))
+      (option_and_then (λ pa. option_map (page_at s.header pa None 3)
+      (if set then Some (first_place s + 4096 * set_count (take bit s.bits)) else None)) address)
   unfolding kept listed
   by_address bit set None is = same_none (has_bit marks (set_count (take bit s.bits)))
   by_address bit false (Some pa) is = same_none (has_bit marks (set_count (take bit s.bits)))

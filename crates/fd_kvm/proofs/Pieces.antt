@@ -1,5 +1,6 @@
 -- The pages of pieces of the kernel window by the directory's entry, and by the file.
-use Rattle.std.proofs.Common.{◌≡◌, ℕ, ◌+◌, ◌-◌, ◌*◌, ◌/◌, ◌%◌, ◌^◌, ◌<◌, ◌≤◌, ◌⊎◌, inl, inr, Bool, true, false, if◌then◌else◌, nat_le, min, List, [], ◌++◌, take, drop, slice_range, Option, Some, None, Result, Ok, Err, refl, sym, ap, subst, ◌∙◌, arith, append_assoc}
+use Rattle.std.proofs.Common.{◌≡◌, ℕ, ◌+◌, ◌-◌, ◌*◌, ◌/◌, ◌%◌, ◌^◌, ◌<◌, ◌≤◌, ◌⊎◌, inl, inr, Bool, true, false, if◌then◌else◌, nat_le, min, List, []}
+use Rattle.std.proofs.Common.{◌++◌, take, drop, slice_range, Option, Some, None, Result, Ok, Err, refl, sym, ap, subst, ◌∙◌, arith, append_assoc}
 use Rattle.std.specs.Int.{w64, div_ceil, from_le_bytes}
 use Rattle.std.specs.List.{filter_map, range_with_len}
 use Rattle.std.proofs.lemmas.List.{take-take, drop-take, drop-drop}
@@ -71,8 +72,12 @@ pub entry_low : (h : MiniHeader) (index : ℕ) → unit_of h / 4096 * index < pi
 entry_low h index within = low_by (unit_of h) (unit_of h / 4096) index (piece_count h) (each_of h) within (omega arith)
 
 same_entry_by : (unit each index piece : ℕ) → ((unit ≡ 4096) × (each ≡ 1)) ⊎ ((unit ≡ 2097152) × (each ≡ 512)) → each * index ≤ piece → piece < each * index + each → 4096 * piece / unit ≡ index
-same_entry_by unit each index piece (inl one) low high = rw one.0 (let a : 1 * index ≤ piece = subst (λ n. n * index ≤ piece) one.1 low in let b : piece < 1 * index + 1 = subst (λ n. piece < n * index + n) one.1 high in omega arith)
-same_entry_by unit each index piece (inr many) low high = rw many.0 (let a : 512 * index ≤ piece = subst (λ n. n * index ≤ piece) many.1 low in let b : piece < 512 * index + 512 = subst (λ n. piece < n * index + n) many.1 high in omega arith)
+same_entry_by unit each index piece (inl one) low high =
+    rw one.0 (let a : 1 * index ≤ piece = subst (λ n. n * index ≤ piece) one.1 low in let b : piece < 1 * index + 1 =
+    subst (λ n. piece < n * index + n) one.1 high in omega arith)
+same_entry_by unit each index piece (inr many) low high =
+    rw many.0 (let a : 512 * index ≤ piece = subst (λ n. n * index ≤ piece) many.1 low in let b : piece < 512 * index + 512 =
+    subst (λ n. piece < n * index + n) many.1 high in omega arith)
 
 all_pieces : (unit each all count : ℕ) → ((unit ≡ 4096) × (each ≡ 1)) ⊎ ((unit ≡ 2097152) × (each ≡ 512)) → count ≡ div_ceil all each → min (each * count) all ≡ all
 all_pieces unit each all count (inl one) is =
@@ -215,7 +220,9 @@ entries_first f s count =
     (filter_map k (range_with_len (0 + so_far) rest), sym (ap (λ n. filter_map k (range_with_len 0 n)) all ∙ mapped_more k 0 so_far rest))
 
 -- and so are the first of the next entry behind them
-pub entries_then : (f : List ℕ) (s : Sections) (index : ℕ) (front pages : List Page) → entry_pieces s * index < piece_count s.header → front ≡ pages_of_entries f s index → AreFirst pages (pages_of_entry f s index) → AreFirst (front ++ pages) (window_pages f s)
+pub entries_then : (f : List ℕ) (s : Sections) (index : ℕ) (front pages : List Page) →
+    entry_pieces s * index < piece_count s.header → front ≡ pages_of_entries f s index →
+    AreFirst pages (pages_of_entry f s index) → AreFirst (front ++ pages) (window_pages f s)
 entries_then f s index front pages within is first =
     let entry = pages_of_entry f s index in
     let more = entries_first f s (index + 1) in
@@ -230,7 +237,8 @@ entries_then f s index front pages within is first =
     )
 
 -- how many pages there are at most after one more entry
-pub few_more : (each count index front pages : ℕ) → each * index < count → front ≤ min (each * index) count → pages ≤ min (each * index + each) count - each * index → front + pages ≤ min (each * (index + 1)) count
+pub few_more : (each count index front pages : ℕ) → each * index < count → front ≤ min (each * index) count →
+    pages ≤ min (each * index + each) count - each * index → front + pages ≤ min (each * (index + 1)) count
 few_more each count index front pages inside first next =
     let more : each * (index + 1) ≡ each * index + each = omega arith in
     omega arith

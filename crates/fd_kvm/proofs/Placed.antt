@@ -1,6 +1,7 @@
 -- Addresses that one entry of the directory maps, or the direct map, stand for physical addresses one after another.
 use Rattle.std.proofs.Common.{◌≡◌, ℕ, ◌+◌, ◌-◌, ◌*◌, ◌/◌, ◌%◌, ◌<◌, ◌≤◌, true, false, not, ◌||◌, nat_le, nat_lt, min, inl, inr, List, Some, Result, Ok, Err, sym, ap, ◌∙◌, arith}
-use Rattle.std.proofs.lemmas.Bool.{and_parts, and_from, and_cases, and_left, and_right, or_cases, or_left, or_right, or_parts, not-true, ltb-true, ltb-false, leb-true, leb-false, lt-ltb, le-ltb, lt-leb, le-leb, cases_Bool, cases_lt, both_ways, or_from}
+use Rattle.std.proofs.lemmas.Bool.{and_parts, and_from, and_cases, and_left, and_right, or_cases, or_left, or_right, or_parts, not-true, ltb-true}
+use Rattle.std.proofs.lemmas.Bool.{ltb-false, leb-true, leb-false, lt-ltb, le-ltb, lt-leb, le-leb, cases_Bool, cases_lt, both_ways, or_from}
 use Rattle.std.proofs.lemmas.Bool.Decides.{nat_tests}
 use Rattle.std.proofs.lemmas.Nat.{pow_pos}
 use Rattle.fd_bytes.specs.Field.{u64_le_at}
@@ -14,7 +15,8 @@ use Rattle.fd_mini.specs.declared.address_fault.AddressFault.TheVariants.{Outsid
 use Rattle.fd_mini.specs.Layout.{entry_height_of, unit_of}
 use Rattle.fd_mini.specs.Places.{places_of}
 use Rattle.fd_vmcore.specs.Sections.{Sections}
-use Rattle.fd_kvm.specs.Place.{entry_index, is_in_kernel_window, is_in_direct_map, window_is_first, by_table_entry, by_table, table_entry, by_entry, by_directory, by_direct_map, directory_entry, placed}
+use Rattle.fd_kvm.specs.Place.{entry_index, is_in_kernel_window, is_in_direct_map, window_is_first, by_table_entry}
+use Rattle.fd_kvm.specs.Place.{by_table, table_entry, by_entry, by_directory, by_direct_map, directory_entry, placed}
 use Rattle.fd_kvm.specs.Runs.{IsSpan, is_by_window, unit_offset, up_to, window_limit}
 use Rattle.fd_kvm.specs.declared.fault.ReadFault.{ReadFault}
 use Rattle.fd_kvm.specs.declared.fault.ReadFault.TheVariants.{Address, SiteFault}

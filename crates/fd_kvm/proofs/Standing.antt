@@ -1,5 +1,6 @@
 -- What is read of the file for which a reader stands.
-use Rattle.std.proofs.Common.{◌≡◌, ℕ, ◌+◌, ◌-◌, ◌*◌, ◌/◌, ◌%◌, ◌<◌, ◌≤◌, Bool, true, false, if◌then◌else◌, List, [], length, take, drop, slice_range, Option, Some, None, IsSomeAnd, IfSome, Ok, refl, ap, subst, ◌∙◌, arith}
+use Rattle.std.proofs.Common.{◌≡◌, ℕ, ◌+◌, ◌-◌, ◌*◌, ◌/◌, ◌%◌, ◌<◌, ◌≤◌, Bool, true, false, if◌then◌else◌, List, [], length}
+use Rattle.std.proofs.Common.{take, drop, slice_range, Option, Some, None, IsSomeAnd, IfSome, Ok, refl, ap, subst, ◌∙◌, arith}
 use Rattle.std.specs.Int.{w64, from_le_bytes}
 use Rattle.std.specs.Option.{option_and_then}
 use Rattle.std.proofs.lemmas.List.{take_all, take-take, drop-take, drop-drop}

@@ -1,5 +1,6 @@
 -- What a visitor took part by part, and which pages were marked.
-use Rattle.std.proofs.Common.{◌≡◌, ℕ, zero, suc, ◌+◌, ◌-◌, ◌*◌, ◌<◌, ◌≤◌, Bool, true, false, ◌||◌, nat_eq, List, [], ◌∷◌, ◌++◌, length, Option, Some, None, Result, Ok, Err, IsErr, refl, sym, ap, subst, ◌∙◌, arith, append_assoc, append-nil}
+use Rattle.std.proofs.Common.{◌≡◌, ℕ, zero, suc, ◌+◌, ◌-◌, ◌*◌, ◌<◌, ◌≤◌, Bool, true, false, ◌||◌, nat_eq, List, [], ◌∷◌, ◌++◌, length}
+use Rattle.std.proofs.Common.{Option, Some, None, Result, Ok, Err, IsErr, refl, sym, ap, subst, ◌∙◌, arith, append_assoc, append-nil}
 use Rattle.std.specs.List.{cons_option, filter_map, range_with_len}
 use Rattle.std.proofs.lemmas.List.{length-append}
 use Rattle.std.proofs.lemmas.List.Folds.{list_any-append}
@@ -11,7 +12,8 @@ use Rattle.fd_kvm.specs.Visits.{AreFirst, AreGiven, Took, TookAll}
 use Rattle.fd_kvm.specs.Walk.{has_page}
 use Rattle.fd_kvm.specs.declared.page.Page.{Page}
 
-all_then : {V : Type 0} (took : V → Page → Bool → V → Type 0) (front pages : List Page) (old between new : V) → TookAll took old front between → TookAll took between pages new → TookAll took old (front ++ pages) new
+all_then : {V : Type 0} (took : V → Page → Bool → V → Type 0) (front pages : List Page) (old between new : V) →
+    TookAll took old front between → TookAll took between pages new → TookAll took old (front ++ pages) new
 all_then {V} took [] pages old between new first more = let P : V → Type 0 = λ v. TookAll took v pages new in subst P first more
 all_then took (page ∷ front) pages old between new first more = (first.0, (first.1.0, all_then took front pages first.0 between new first.1.1 more))
 
@@ -72,7 +74,8 @@ module _ {V : Type 0} (took : V → Page → Bool → V → Type 0) (s : Section
   }
 
   -- one page
-  pub part_one : (old new : V) (before after : List Bool) (page : Page) (answer : Bool) → took old page answer new → AreMarked s (page ∷ []) before after → IsPart took s old new before after answer (λ pages. pages ≡ page ∷ [])
+  pub part_one : (old new : V) (before after : List Bool) (page : Page) (answer : Bool) → took old page answer new →
+      AreMarked s (page ∷ []) before after → IsPart took s old new before after answer (λ pages. pages ≡ page ∷ [])
   part_one old new before after page answer taken marked = record {
     pages = page ∷ [];
     taken = took_one took page answer old new taken;
@@ -81,7 +84,9 @@ module _ {V : Type 0} (took : V → Page → Bool → V → Type 0) (s : Section
   }
 
   -- of the same pages something else may be said
-  pub part_as : (old new : V) (before after : List Bool) (went_on : Bool) (Are Other : List Page → Type 0) → IsPart took s old new before after went_on Are → ((pages : List Page) → Are pages → Other pages) → IsPart took s old new before after went_on Other
+  pub part_as : (old new : V) (before after : List Bool) (went_on : Bool) (Are Other : List Page → Type 0) →
+      IsPart took s old new before after went_on Are → ((pages : List Page) → Are pages → Other pages) →
+      IsPart took s old new before after went_on Other
   part_as old new before after went_on Are Other part other = record {
     pages = part.pages;
     taken = part.taken;
@@ -109,11 +114,14 @@ range_more first (suc count) more =
     let same : first + 1 + count ≡ first + suc count = omega arith in
     ap (range_with_len first) next ∙ ap (λ l. first ∷ l) (range_more (first + 1) count more ∙ ap (λ n. range_with_len (first + 1) count ++ range_with_len n more) same)
 
-pub mapped_more : {X : Type 0} (h : ℕ → Option X) (first count more : ℕ) → filter_map h (range_with_len first (count + more)) ≡ filter_map h (range_with_len first count) ++ filter_map h (range_with_len (first + count) more)
+pub mapped_more : {X : Type 0} (h : ℕ → Option X) (first count more : ℕ) →
+    filter_map h (range_with_len first (count + more)) ≡ filter_map h (range_with_len first count) ++ filter_map h
+    (range_with_len (first + count) more)
 mapped_more h first count more = ap (filter_map h) (range_more first count more) ∙ filter_map-append h (range_with_len first count) (range_with_len (first + count) more)
 
 -- the same of each number
-pub mapped_same : {X : Type 0} (h k : ℕ → Option X) (first count : ℕ) → ((n : ℕ) → first ≤ n → n < first + count → h n ≡ k n) → filter_map h (range_with_len first count) ≡ filter_map k (range_with_len first count)
+pub mapped_same : {X : Type 0} (h k : ℕ → Option X) (first count : ℕ) → ((n : ℕ) → first ≤ n → n < first + count → h n ≡ k n) →
+    filter_map h (range_with_len first count) ≡ filter_map k (range_with_len first count)
 mapped_same h k first zero same = refl
 mapped_same h k first (suc count) same =
     ap (λ o. cons_option o (filter_map h (range_with_len (first + 1) count))) (same first (omega arith) (omega arith))
@@ -128,7 +136,8 @@ pub mapped_pass : {X : Type 0} (h : ℕ → Option X) (first count : ℕ) → h 
 mapped_pass h first count none =
     mapped_more h first count 1 ∙ ap (λ o. filter_map h (range_with_len first count) ++ cons_option o []) none ∙ append-nil (filter_map h (range_with_len first count))
 
-pub mapped_item : {X : Type 0} (h : ℕ → Option X) (first count : ℕ) (item : X) → h (first + count) ≡ Some item → filter_map h (range_with_len first (count + 1)) ≡ filter_map h (range_with_len first count) ++ item ∷ []
+pub mapped_item : {X : Type 0} (h : ℕ → Option X) (first count : ℕ) (item : X) → h (first + count) ≡ Some item →
+    filter_map h (range_with_len first (count + 1)) ≡ filter_map h (range_with_len first count) ++ item ∷ []
 mapped_item h first count item some = mapped_more h first count 1 ∙ ap (λ o. filter_map h (range_with_len first count) ++ cons_option o []) some
 
 -- the pages up to one are the first pages
@@ -154,7 +163,8 @@ module _ {V : Type 0} (took : V → Page → Bool → V → Type 0) (s : Section
       → took between page true new → AreMarked s (page ∷ []) middle after
       → IsPart took s old new before after true (λ pages. pages ≡ filter_map h (range_with_len first next))
   part_item old between new before middle after next page follows some part taken marked =
-      part_then took s old between new before middle after true (λ pages. pages ≡ filter_map h (range_with_len first count)) (λ pages. pages ≡ page ∷ []) (λ pages. pages ≡ filter_map h (range_with_len first next))
+      part_then took s old between new before middle after true (λ pages. pages ≡ filter_map h (range_with_len first count))
+      (λ pages. pages ≡ page ∷ []) (λ pages. pages ≡ filter_map h (range_with_len first next))
       part (part_one took s between new middle after page true taken marked)
       (λ front pages are one. ap (λ l. l ++ pages) are ∙ ap (λ l. filter_map h (range_with_len first count) ++ l) one
       ∙ sym (mapped_item h first count page (item_here (Some page) some)) ∙ ap (λ n. filter_map h (range_with_len first n)) (sym follows))

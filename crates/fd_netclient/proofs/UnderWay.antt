@@ -40,7 +40,8 @@ module _ (dump : List ℕ) (h : Header) where
   }
 
   module _ (patience : Patience) where
-    passes_then : (from : State) (trace more : List LinkEvent) (at to : State) → Passes dump h patience from trace at → Passes dump h patience at more to → Passes dump h patience from (trace ++ more) to
+    passes_then : (from : State) (trace more : List LinkEvent) (at to : State) → Passes dump h patience from trace at →
+        Passes dump h patience at more to → Passes dump h patience from (trace ++ more) to
     passes_then from [] more at to passes further = subst (λ (s : State). Passes dump h patience s more to) (sym passes) further
     passes_then (Ended session outcome) (e ∷ trace) more at to passes further = absurd passes
     passes_then (At p) (e ∷ trace) more at to passes further = (passes.0, passes_then (step_at dump h patience p p.unsent e) trace more at to passes.1 further)
@@ -52,7 +53,9 @@ module _ (dump : List ℕ) (h : Header) where
       pub patience_is : client.patience ≡ patience
       pub passes : Passes dump h patience (start patience (chunks dump)) trace client.state
 
-    pub begins : (begun : Option (List LinkEvent)) (client : Standing) → client ≡ record { count = chunks dump; patience = patience; state = start patience (chunks dump) } → IsUnderWay begun begun client
+    pub begins : (begun : Option (List LinkEvent)) (client : Standing) →
+        client ≡ record { count = chunks dump; patience = patience; state = start patience (chunks dump) } →
+        IsUnderWay begun begun client
     begins begun client is = record {
       trace = [];
       told = grown-nil begun;

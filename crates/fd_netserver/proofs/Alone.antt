@@ -66,7 +66,9 @@ module _ (slot n : ℕ) (some : slot ≡ 0 → ⊥) where
 
   -- the session's own end
   ended : (sessions : List Session) (files : Files) (t : Turn) → AreSound sessions files → (held : IsOpenHere sessions) → t.input.slot ≡ slot → (row : Row) → FactsOf sessions files t.input row
-      → t.reply ≡ reply_of row → t.entries ≡ entries_of row → (seqno k number size : ℕ) → t.reply ≡ Finished seqno k number size → IsSettled n (after_reply sessions t.input t.reply) (files_after files t.entries)
+      → t.reply ≡ reply_of row → t.entries ≡ entries_of row → (seqno k number size : ℕ) →
+      t.reply ≡ Finished seqno k number size →
+      IsSettled n (after_reply sessions t.input t.reply) (files_after files t.entries)
   ended sessions files t sound held here (Skips why) facts reply entries seqno k number size is = absurd (cc)
   ended sessions files t sound held here (Repeats slot' seqno') facts reply entries seqno k number size is = absurd (cc)
   ended sessions files t sound held here (Opens slot' seqno' number') facts reply entries seqno k number size is = absurd (cc)
@@ -86,12 +88,14 @@ module _ (slot n : ℕ) (some : slot ≡ 0 → ⊥) where
             ∙ ap (λ (m : ℕ). files (vmcore_name m)) (sym held.number)
             ∙ sound.kept at held.s held_there;
         none_open = λ i s open_ its_number.
-            let stays = shut_stays sessions t.input (λ (u : Session). record u { phase = Done }) (λ u shut. absurd (cc)) i s (subst (λ (r : Reply). IsOpen (after_reply sessions t.input r) i s) reply open_) in
+            let stays = shut_stays sessions t.input (λ (u : Session). record u { phase = Done }) (λ u shut. absurd (cc)) i s
+            (subst (λ (r : Reply). IsOpen (after_reply sessions t.input r) i s) reply open_) in
             let was = stays.was_open in
             stays.elsewhere facts.at.slot (sound.apart i at was.was held.s was.is_open held_there (was.number ∙ its_number ∙ sym held.number));
       }
 
-  held_here : (sessions : List Session) (files : Files) (t : Turn) → AreSound sessions files → (held : IsOpenHere sessions) → t.input.slot ≡ slot → (t.reply ≡ Ignored skip.Broken → ⊥) → IsTurn sessions files t
+  held_here : (sessions : List Session) (files : Files) (t : Turn) → AreSound sessions files → (held : IsOpenHere sessions) →
+      t.input.slot ≡ slot → (t.reply ≡ Ignored skip.Broken → ⊥) → IsTurn sessions files t
       → (reply : Reply) → t.reply ≡ reply → IsHeld (after_reply sessions t.input t.reply) (files_after files t.entries)
   held_here sessions files t sound held here whole is (Finished seqno k number size) reply =
       elim is [
@@ -109,17 +113,31 @@ module _ (slot n : ℕ) (some : slot ≡ 0 → ⊥) where
   held_here sessions files t sound held here whole is (Opened k seqno number) reply =
       let own = turn_here slot some sessions files t held.s here held.is_open.there whole is in
       let same : own_after t.input t.reply held.s ≡ held.s = ap (λ (r : Reply). own_after t.input r held.s) reply in
-      inl (record { s = own_after t.input t.reply held.s; is_open = record { there = own.after; phase = ap (λ (u : Session). u.phase) same ∙ held.is_open.phase }; number = ap (λ (u : Session). u.number) same ∙ held.number })
+      inl (record {
+        s = own_after t.input t.reply held.s;
+        is_open = record { there = own.after; phase = ap (λ (u : Session). u.phase) same ∙ held.is_open.phase };
+        number =
+            ap (λ (u : Session). u.number) same ∙ held.number;
+      })
   held_here sessions files t sound held here whole is (Ignored why) reply =
       let own = turn_here slot some sessions files t held.s here held.is_open.there whole is in
       let same : own_after t.input t.reply held.s ≡ held.s = ap (λ (r : Reply). own_after t.input r held.s) reply in
-      inl (record { s = own_after t.input t.reply held.s; is_open = record { there = own.after; phase = ap (λ (u : Session). u.phase) same ∙ held.is_open.phase }; number = ap (λ (u : Session). u.number) same ∙ held.number })
+      inl (record {
+        s = own_after t.input t.reply held.s;
+        is_open = record { there = own.after; phase = ap (λ (u : Session). u.phase) same ∙ held.is_open.phase };
+        number =
+            ap (λ (u : Session). u.number) same ∙ held.number;
+      })
 
-  pub alone_run : (sessions : List Session) (files : Files) (ts : List Turn) → AreSound sessions files → IsHeld sessions files → Each (IsWhole slot) ts → IsServerRun sessions files ts → Each (LeavesFiles slot n) ts
+  pub alone_run : (sessions : List Session) (files : Files) (ts : List Turn) → AreSound sessions files → IsHeld sessions files →
+      Each (IsWhole slot) ts → IsServerRun sessions files ts → Each (LeavesFiles slot n) ts
   alone_run sessions files [] sound held whole is = tt
   alone_run sessions files (t ∷ ts) sound (inr settled) whole is =
-      let next = settled_turn n sessions files t sound settled is.0 in
-      ((λ other. next.apart), alone_run (after_reply sessions t.input t.reply) (files_after files t.entries) ts (sound_turn sessions files sound t.input t.reply t.entries is.0) (inr next.settled) whole.1 is.1)
+      let next = settled_turn n sessions files t sound settled is.0 in (
+        (λ other. next.apart),
+        alone_run (after_reply sessions t.input t.reply) (files_after files t.entries) ts
+            (sound_turn sessions files sound t.input t.reply t.entries is.0) (inr next.settled) whole.1 is.1,
+      )
   alone_run sessions files (t ∷ ts) sound (inl held) whole is =
       let sound_next : AreSound (after_reply sessions t.input t.reply) (files_after files t.entries) = sound_turn sessions files sound t.input t.reply t.entries is.0 in
       let next : IsHeld (after_reply sessions t.input t.reply) (files_after files t.entries) =

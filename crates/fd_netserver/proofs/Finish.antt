@@ -153,7 +153,8 @@ module _ (dump header : List ℕ) (peer : Peer) where
   unfinished_end sessions t not_finish (Writes slot seqno number piece) is = tt
   unfinished_end sessions t not_finish (Keeps slot seqno) is = tt
 
-  quiet_row : (sessions : List Session) (files : Files) (t : Turn) → Each IsUnfinished sessions → (IsFinishTo peer t → ⊥) → (row : Row) → FactsOf sessions files t.input row → t.reply ≡ reply_of row → IsEndAnswered t → ⊥
+  quiet_row : (sessions : List Session) (files : Files) (t : Turn) → Each IsUnfinished sessions → (IsFinishTo peer t → ⊥) →
+      (row : Row) → FactsOf sessions files t.input row → t.reply ≡ reply_of row → IsEndAnswered t → ⊥
   quiet_row sessions files t unfinished not_finish (Skips why) facts is end = end.answered why is
   quiet_row sessions files t unfinished not_finish (Repeats slot seqno) facts is end =
       let same : end.m ≡ facts.m = let e : Some end.m ≡ Some facts.m = sym end.is_read ∙ facts.is_read in cc in
@@ -223,12 +224,14 @@ module _ (dump header : List ℕ) (peer : Peer) where
           entries = es ∙ (λ i. end_of (same i) (is_ours i) (facts.parity_is i)) ∙ ap (λ (l : List ℕ). end_of finish.number h (parity_of l)) its_bytes;
           core = ap (λ (m : ℕ). files (vmcore_name m)) (sym its_number) ∙ sound.kept k facts.s open_ ∙ ap (λ (l : List ℕ). Some l) file;
           none_open = λ i s now_open its.
-              let stays = shut_stays sessions t.input (λ (u : Session). record u { phase = Done }) (λ u shut. absurd (cc)) i s (subst (λ (r : Reply). IsOpen (after_reply sessions t.input r) i s) is now_open) in
+              let stays = shut_stays sessions t.input (λ (u : Session). record u { phase = Done }) (λ u shut. absurd (cc)) i s
+              (subst (λ (r : Reply). IsOpen (after_reply sessions t.input r) i s) is now_open) in
               let was = stays.was_open in
               stays.elsewhere facts.at.slot (sound.apart i k was.was facts.s was.is_open open_ (was.number ∙ its ∙ sym its_number));
         }
 
-    finish_turn : (sessions : List Session) (files : Files) (t : Turn) → AreSound sessions files → Each IsClients sessions → (finish : IsFinishTo peer t) → IsTurn sessions files t → Finishes sessions files t finish.number
+    finish_turn : (sessions : List Session) (files : Files) (t : Turn) → AreSound sessions files → Each IsClients sessions →
+        (finish : IsFinishTo peer t) → IsTurn sessions files t → Finishes sessions files t finish.number
     finish_turn sessions files t sound clients finish is =
         elim is [
           | inl done ↦ finish_row sessions files t sound clients finish (row_of sessions files t.input) (facts_of sessions files t.input) done.reply done.entries
@@ -301,7 +304,9 @@ module _ (dump header : List ℕ) (peer : Peer) where
           | inl finish ↦
               let facts : Finishes sessions files t finish.number = finish_turn sessions files t sound clients finish is.0 in
               let n : ℕ = finish.number in
-              let still : next (vmcore_name n) ≡ files (vmcore_name n) = ap (λ (es : List Entry). file_after (vmcore_name n) (files (vmcore_name n)) es) facts.entries ∙ core_after n h (parity_of header) (files (vmcore_name n)) in
+              let still : next (vmcore_name n) ≡ files (vmcore_name n) =
+              ap (λ (es : List Entry). file_after (vmcore_name n) (files (vmcore_name n)) es) facts.entries
+              ∙ core_after n h (parity_of header) (files (vmcore_name n)) in
               inr (record {
                 first = record { earlier = []; turn = t; later = ts; is = refl; none_before = tt; finish = finish };
                 small = facts.small;
@@ -311,8 +316,12 @@ module _ (dump header : List ℕ) (peer : Peer) where
               })
           | inr not_finish ↦
               let quiet : IsQuiet t = quiet_turn sessions files t unfinished not_finish is.0 in
-              let clients_next : Each IsClients after = kept_turn sessions files t.input IsClients (clients_kept sessions t.input says.0) clients t refl is.0 (λ same. clients_end sessions t.input (row_of sessions files t.input)) in
-              let unfinished_next : Each IsUnfinished after = kept_turn sessions files t.input IsUnfinished (unfinished_kept sessions t.input) unfinished t refl is.0 (unfinished_end sessions t not_finish (row_of sessions files t.input)) in
+              let clients_next : Each IsClients after =
+              kept_turn sessions files t.input IsClients (clients_kept sessions t.input says.0) clients t refl is.0
+              (λ same. clients_end sessions t.input (row_of sessions files t.input)) in
+              let unfinished_next : Each IsUnfinished after =
+              kept_turn sessions files t.input IsUnfinished (unfinished_kept sessions t.input) unfinished t refl is.0
+              (unfinished_end sessions t not_finish (row_of sessions files t.input)) in
               elim (search_run after next ts sound_next clients_next unfinished_next says.1 is.1) [
                 | inl rest ↦ inl (quiet, rest)
                 | inr found ↦ inr (found_behind files (t ∷ []) ts (not_finish, tt) (subst (λ (es : List Entry). Found (files_after files es) ts) (sym (append-nil t.entries)) found))

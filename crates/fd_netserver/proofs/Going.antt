@@ -108,7 +108,8 @@ module _ (old mid new : Seen) (seen now : Option (List PortsEvent)) (rs : List R
       unbroken = unbroken_more old mid new rs hs last served.stands served.count count cause served.unbroken;
       events = answered ∙ ap (λ (t : Option (List PortsEvent)). grown t (answers_of input.peer reply)) taken ∙ last_events (answers_of input.peer reply)
           ∙ ap (grown seen) (ap (λ l. events_of hs ++ (input_event input ∷ l)) (sym (append-nil (answers_of input.peer reply))) ∙ sym (events-behind hs (Some last ∷ [])));
-      stands = subst (λ (ts : List Turn). StandsFor rs1 (sessions_after [] ts)) (sym (turns-behind hs last)) (stands_behind rs1 (turns_in hs) last (stands (sessions_after [] (turns_in hs)) served.stands));
+      stands = subst (λ (ts : List Turn). StandsFor rs1 (sessions_after [] ts)) (sym (turns-behind hs last))
+          (stands_behind rs1 (turns_in hs) last (stands (sessions_after [] (turns_in hs)) served.stands));
     };
   }
 
@@ -140,7 +141,8 @@ broken_reply old was new seen now later rs hs input served same list listed take
 }
 
 -- nothing was taken
-pub broken_look : (old new : Seen) (seen now later : Option (List PortsEvent)) (rs : List Record) (hs : List (Option Turn)) → IsServed old new seen now rs hs → (list : List Received) → list ≡ finished_in hs → later ≡ now
+pub broken_look : (old new : Seen) (seen now later : Option (List PortsEvent)) (rs : List Record) (hs : List (Option Turn)) →
+    IsServed old new seen now rs hs → (list : List Received) → list ≡ finished_in hs → later ≡ now
     → IsServedTo (BreaksOff PortsFault hs) old new seen later list
 broken_look old new seen now later rs hs served list listed same = record {
   happened = hs;

@@ -58,7 +58,8 @@ module _ (slot : ℕ) (some : slot ≡ 0 → ⊥) where
       go : (a b : ℕ) → (a ≡ 0 → ⊥) → (b ≡ 0 → ⊥) → b - 1 ≡ a - 1 → a ≡ b
       go a b pos_a pos_b e = omega arith
 
-  changed_elsewhere : (sessions : List Session) (input : Input) (f : Session → Session) (s : Session) → (input.slot ≡ slot → ⊥) → (input.slot ≡ 0 → ⊥) → Has sessions s → Has (change_at f sessions input.slot) s
+  changed_elsewhere : (sessions : List Session) (input : Input) (f : Session → Session) (s : Session) →
+      (input.slot ≡ slot → ⊥) → (input.slot ≡ 0 → ⊥) → Has sessions s → Has (change_at f sessions input.slot) s
   changed_elsewhere sessions input f s other pos has = nth-same f sessions (input.slot - 1) (slot - 1) (other_place input.slot other pos) ∙ has
 
   broken_elsewhere : (sessions : List Session) (input : Input) (s : Session) → (input.slot ≡ slot → ⊥) → Has sessions s → Has (after_reply sessions input (Ignored skip.Broken)) s
@@ -73,7 +74,8 @@ module _ (slot : ℕ) (some : slot ≡ 0 → ⊥) where
       (λ herald. has)
       (λ session. changed_elsewhere sessions input (told (message_of input.bytes)) s other (eqb-false input.slot 0 session) has)
 
-  row_elsewhere : (sessions : List Session) (files : Files) (input : Input) (s : Session) → (input.slot ≡ slot → ⊥) → Has sessions s → (row : Row) → FactsOf sessions files input row → Has (after_reply sessions input (reply_of row)) s
+  row_elsewhere : (sessions : List Session) (files : Files) (input : Input) (s : Session) → (input.slot ≡ slot → ⊥) →
+      Has sessions s → (row : Row) → FactsOf sessions files input row → Has (after_reply sessions input (reply_of row)) s
   row_elsewhere sessions files input s other has (Skips skip.Broken) facts = broken_elsewhere sessions input s other has
   row_elsewhere sessions files input s other has (Skips why) facts = has
   row_elsewhere sessions files input s other has (Repeats k seqno) facts = acked_elsewhere sessions input s other has k seqno
@@ -82,10 +84,12 @@ module _ (slot : ℕ) (some : slot ≡ 0 → ⊥) where
   row_elsewhere sessions files input s other has (Keeps k seqno) facts = acked_elsewhere sessions input s other has k seqno
   row_elsewhere sessions files input s other has (Ends k seqno number header size) facts = changed_elsewhere sessions input (with_phase Done) s other facts.at.slot has
 
-  pub turn_elsewhere : (sessions : List Session) (files : Files) (t : Turn) (s : Session) → (t.input.slot ≡ slot → ⊥) → Has sessions s → IsTurn sessions files t → Has (after_reply sessions t.input t.reply) s
+  pub turn_elsewhere : (sessions : List Session) (files : Files) (t : Turn) (s : Session) → (t.input.slot ≡ slot → ⊥) →
+      Has sessions s → IsTurn sessions files t → Has (after_reply sessions t.input t.reply) s
   turn_elsewhere sessions files t s other has is =
       elim is [
-        | inl done ↦ subst (λ (r : Reply). Has (after_reply sessions t.input r) s) (sym done.reply) (row_elsewhere sessions files t.input s other has (row_of sessions files t.input) (facts_of sessions files t.input))
+        | inl done ↦ subst (λ (r : Reply). Has (after_reply sessions t.input r) s) (sym done.reply)
+            (row_elsewhere sessions files t.input s other has (row_of sessions files t.input) (facts_of sessions files t.input))
         | inr broken ↦ subst (λ (r : Reply). Has (after_reply sessions t.input r) s) (sym broken.reply) (broken_elsewhere sessions t.input s other has)
       ]
 
@@ -104,18 +108,23 @@ module _ (slot : ℕ) (some : slot ≡ 0 → ⊥) where
           ∙ ap (session_row input.slot input.peer m) (ap (session_at sessions) here ∙ has)
 
   -- the session after a reply that isn't Broken and isn't Opened
-  after_here : (sessions : List Session) (input : Input) (s : Session) (reply : Reply) → input.slot ≡ slot → Has sessions s → (reply ≡ Ignored skip.Broken → ⊥) → ((k seqno number : ℕ) → reply ≡ Opened k seqno number → ⊥)
+  after_here : (sessions : List Session) (input : Input) (s : Session) (reply : Reply) → input.slot ≡ slot → Has sessions s →
+      (reply ≡ Ignored skip.Broken → ⊥) → ((k seqno number : ℕ) → reply ≡ Opened k seqno number → ⊥)
       → Has (after_reply sessions input reply) (own_after input reply s)
   after_here sessions input s (Opened k seqno number) here has whole not_open = absurd (not_open k seqno number refl)
   after_here sessions input s (Ack k seqno) here has whole not_open =
-      subst (λ (l : List Session). Has l (told (message_of input.bytes) s)) (sym (ap (λ (b : Bool). cond b sessions (change_at (told (message_of input.bytes)) sessions input.slot)) (ne_eqb input.slot 0 (λ e. some (sym here ∙ e)))))
-      (subst (λ k. nth (change_nth (told (message_of input.bytes)) sessions (k - 1)) (slot - 1) ≡ Some (told (message_of input.bytes) s)) (sym here) (nth-change (told (message_of input.bytes)) sessions (slot - 1) s has))
+      subst (λ (l : List Session). Has l (told (message_of input.bytes) s))
+      (sym (ap (λ (b : Bool). cond b sessions (change_at (told (message_of input.bytes)) sessions input.slot))
+      (ne_eqb input.slot 0 (λ e. some (sym here ∙ e)))))
+      (subst (λ k. nth (change_nth (told (message_of input.bytes)) sessions (k - 1)) (slot - 1) ≡ Some
+      (told (message_of input.bytes) s)) (sym here) (nth-change (told (message_of input.bytes)) sessions (slot - 1) s has))
   after_here sessions input s (Finished seqno k number size) here has whole not_open =
       subst (λ k. nth (change_nth (with_phase Done) sessions (k - 1)) (slot - 1) ≡ Some (with_phase Done s)) (sym here) (nth-change (with_phase Done) sessions (slot - 1) s has)
   after_here sessions input s (Ignored skip.Broken) here has whole not_open = absurd (whole refl)
   after_here sessions input s (Ignored why) here has whole not_open = has
 
-  not_opened : (sessions : List Session) (files : Files) (input : Input) → input.slot ≡ slot → (row : Row) → FactsOf sessions files input row → (k seqno number : ℕ) → reply_of row ≡ Opened k seqno number → ⊥
+  not_opened : (sessions : List Session) (files : Files) (input : Input) → input.slot ≡ slot → (row : Row) →
+      FactsOf sessions files input row → (k seqno number : ℕ) → reply_of row ≡ Opened k seqno number → ⊥
   not_opened sessions files input here (Skips why) facts k seqno number is = absurd (cc)
   not_opened sessions files input here (Repeats slot' seqno') facts k seqno number is = absurd (cc)
   not_opened sessions files input here (Opens slot' seqno' number') facts k seqno number is = some (sym here ∙ facts.slot)
@@ -128,7 +137,8 @@ module _ (slot : ℕ) (some : slot ≡ 0 → ⊥) where
     pub reply : t.reply ≡ reply_of (own_row t.input s)
     pub after : Has (after_reply sessions t.input t.reply) (own_after t.input t.reply s)
 
-  pub turn_here : (sessions : List Session) (files : Files) (t : Turn) (s : Session) → t.input.slot ≡ slot → Has sessions s → (t.reply ≡ Ignored skip.Broken → ⊥) → IsTurn sessions files t → IsOwn sessions t s
+  pub turn_here : (sessions : List Session) (files : Files) (t : Turn) (s : Session) → t.input.slot ≡ slot → Has sessions s →
+      (t.reply ≡ Ignored skip.Broken → ⊥) → IsTurn sessions files t → IsOwn sessions t s
   turn_here sessions files t s here has whole is =
       elim is [
         | inr broken ↦ absurd (whole broken.reply)

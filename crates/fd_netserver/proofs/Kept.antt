@@ -63,7 +63,9 @@ module _ (sessions : List Session) (files : Files) (input : Input) (Q : Session 
       let same : s ≡ facts.s = let e : Some s ≡ Some facts.s = sym there ∙ facts.at.there in cc in
       end s facts.m (record { there = there; peer = facts.at.peer ∙ ap (λ (t : Session). t.peer) (sym same); is_read = facts.is_read }) q)
 
-  pub kept_turn : (t : Turn) → t.input ≡ input → IsTurn sessions files t → (t.reply ≡ reply_of (row_of sessions files input) → EndKept sessions input Q (row_of sessions files input)) → Each Q (after_reply sessions input t.reply)
+  pub kept_turn : (t : Turn) → t.input ≡ input → IsTurn sessions files t →
+      (t.reply ≡ reply_of (row_of sessions files input) → EndKept sessions input Q (row_of sessions files input)) →
+      Each Q (after_reply sessions input t.reply)
   kept_turn t same is end =
       elim is [
         | inl done ↦

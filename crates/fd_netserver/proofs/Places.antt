@@ -1,5 +1,6 @@
 -- Records and sessions in their places.
-use Rattle.std.proofs.Common.{◌≡◌, inl, inr, ◌⊎◌, IfSome, slice_get, ℕ, zero, suc, ◌+◌, ◌-◌, ◌<◌, ◌≤◌, List, [], ◌∷◌, ◌++◌, length, get_or, set, Option, Some, None, Result, Ok, Err, IfOk, IsSome, refl, sym, ◌∙◌, ap, subst, arith}
+use Rattle.std.proofs.Common.{◌≡◌, inl, inr, ◌⊎◌, IfSome, slice_get, ℕ, zero, suc, ◌+◌, ◌-◌, ◌<◌, ◌≤◌, List, [], ◌∷◌, ◌++◌, length}
+use Rattle.std.proofs.Common.{get_or, set, Option, Some, None, Result, Ok, Err, IfOk, IsSome, refl, sym, ◌∙◌, ap, subst, arith}
 use Rattle.fd_site.specs.declared.ports.Peer.{Peer}
 use Rattle.fd_site.specs.Contents.{Contents, Adds}
 use Rattle.fd_site.proofs.Told.{with_entries-nil}
@@ -39,7 +40,8 @@ same_sessions f [] k none = refl
 same_sessions f (s ∷ ss) zero none = absurd (cc)
 same_sessions f (s ∷ ss) (suc k) none = ap (λ l. s ∷ l) (same_sessions f ss k none)
 
-pub stands_set : (f : Session → Session) (rs : List Record) (ss : List Session) (k : ℕ) (r : Record) → StandsFor rs ss → ((s : Session) → nth ss k ≡ Some s → StandsIn r (f s)) → StandsFor (set rs k r) (change_nth f ss k)
+pub stands_set : (f : Session → Session) (rs : List Record) (ss : List Session) (k : ℕ) (r : Record) → StandsFor rs ss →
+    ((s : Session) → nth ss k ≡ Some s → StandsIn r (f s)) → StandsFor (set rs k r) (change_nth f ss k)
 stands_set f [] [] k r stands new = tt
 stands_set f [] (s ∷ ss) k r stands new = absurd stands
 stands_set f (q ∷ rs) [] k r stands new = absurd stands

@@ -6,7 +6,8 @@ use Rattle.fd_kdh.specs.declared.header.Header.{Header}
 use Rattle.fd_netmsg.specs.Message.{Message, herald, finished, vmcore, kdh, key, message_of}
 use Rattle.fd_netserver.specs.Files.{Files, free_number, parity_of}
 use Rattle.fd_netserver.specs.Session.{Input, Piece, Phase, Open, Done, Broken, Session, same_peer, session_at, is_whole, accepted}
-use Rattle.fd_netserver.specs.Table.{Row, Skips, Repeats, Opens, Writes, Keeps, Ends, waiting, numbered, herald_again, herald_row, piece_row, header_row, ending, end_row, open_row, done_row, live_row, phase_row, session_row, message_row, row_of}
+use Rattle.fd_netserver.specs.Table.{Row, Skips, Repeats, Opens, Writes, Keeps, Ends, waiting, numbered, herald_again, herald_row, piece_row}
+use Rattle.fd_netserver.specs.Table.{header_row, ending, end_row, open_row, done_row, live_row, phase_row, session_row, message_row, row_of}
 
 pub same_peer-true : (a b : Peer) → same_peer a b ≡ true → a ≡ b
 same_peer-true a b is =

@@ -27,7 +27,8 @@ sound_run ss files (t ∷ ts) sound run =
     subst (AreSound (sessions_after (after_reply ss t.input t.reply) ts)) (λ i q. sym (file_after-append q (files q) t.entries (entries_in ts)) i)
     (sound_run (after_reply ss t.input t.reply) (files_after files t.entries) ts (sound_turn ss files sound t.input t.reply t.entries run.0) run.1)
 
-there_of : (files : Files) (rs : List Record) (ss : List Session) → StandsFor rs ss → ((k : ℕ) (s : Session) → nth ss k ≡ Some s → s.phase ≡ Open → IsSome (files (vmcore_name s.number))) → AreThere rs files
+there_of : (files : Files) (rs : List Record) (ss : List Session) → StandsFor rs ss →
+    ((k : ℕ) (s : Session) → nth ss k ≡ Some s → s.phase ≡ Open → IsSome (files (vmcore_name s.number))) → AreThere rs files
 there_of files [] ss stands kept = tt
 there_of files (r ∷ rs) [] stands kept = absurd stands
 there_of files (r ∷ rs) (s ∷ ss) stands kept = (

@@ -11,7 +11,8 @@ use Rattle.fd_netserver.specs.History.{IsTurn, IsServerRun, AreServerRuns, entri
 use Rattle.fd_netserver.proofs.Apart.{AreApart, Touches, free_number-is, file_after-none}
 use Rattle.fd_netserver.proofs.Lists.{nth-behind, nth-none, Each-behind}
 use Rattle.fd_netserver.proofs.Rows.{FactsOf, facts_of}
-use Rattle.fd_netserver.proofs.Sound.{IsOpen, AreSound, WasOpen, place, with_taken, with_header, after_row, after_repeat, after_writing, after_keeping, by_change, broken_stays, of_done, of_begun, sound_turn}
+use Rattle.fd_netserver.proofs.Sound.{IsOpen, AreSound, WasOpen, place, with_taken, with_header, after_row, after_repeat}
+use Rattle.fd_netserver.proofs.Sound.{after_writing, after_keeping, by_change, broken_stays, of_done, of_begun, sound_turn}
 
 -- an open session after a row was there before, or has the row's number
 pub open_from : (sessions : List Session) (files : Files) (input : Input) (row : Row) → FactsOf sessions files input row → (k : ℕ) (s : Session) → IsOpen (after_row sessions input row) k s

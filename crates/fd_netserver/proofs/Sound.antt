@@ -271,7 +271,9 @@ module _ (sessions : List Session) (files : Files) (sound : AreSound sessions fi
               record { was = was; is_open = open_; number = ap (λ (t : Session). t.number) (sym changed.2) },
               subst (λ (t : Session). files_after files (Write (vmcore_name number) piece.at piece.bytes ∷ []) (vmcore_name t.number) ≡ Some (file_taken t)) (sym changed.2)
                   (subst (λ n. file_after (vmcore_name n) (files (vmcore_name n)) (Write (vmcore_name number) piece.at piece.bytes ∷ []) ≡ Some (file_taken (with_taken piece was))) (sym number_is)
-                  (ap (λ (b : Bool). cond b (option_map (λ file. file_written file piece.at piece.bytes) (files (vmcore_name number))) (files (vmcore_name number))) (bytes_eq-same (vmcore_name number))
+                  (ap (λ (b : Bool). cond b
+                  (option_map (λ file. file_written file piece.at piece.bytes) (files (vmcore_name number)))
+                  (files (vmcore_name number))) (bytes_eq-same (vmcore_name number))
                   ∙ ap (option_map (λ file. file_written file piece.at piece.bytes)) file_was
                   ∙ ap (λ (l : List ℕ). Some l) (sym (written_all-behind [] was.taken piece)))),
             )
@@ -321,7 +323,9 @@ module _ (sessions : List Session) (files : Files) (sound : AreSound sessions fi
       (λ k s is. let stays = shut_stays sessions input (with_phase Done) (λ t e. absurd (cc)) k s is in
       record { was_open = stays.was_open; file = ap file_taken stays.same; untouched = not_touched row facts k s stays.was_open stays.elsewhere })
 
-  pub sound_turn : (reply : Reply) (es : List Entry) → IsTurn sessions files (record { input = input; reply = reply; entries = es }) → AreSound (after_reply sessions input reply) (files_after files es)
+  pub sound_turn : (reply : Reply) (es : List Entry) →
+      IsTurn sessions files (record { input = input; reply = reply; entries = es }) →
+      AreSound (after_reply sessions input reply) (files_after files es)
   sound_turn reply es is =
       let row : Row = row_of sessions files input in
       let facts = facts_of sessions files input in

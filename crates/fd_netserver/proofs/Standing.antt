@@ -1,5 +1,6 @@
 -- What follows where a record stands for a session.
-use Rattle.std.proofs.Common.{◌≡◌, inl, inr, ◌⊎◌, ◌==◌, ℕ, zero, suc, ◌+◌, ◌-◌, ◌<◌, ◌≤◌, Bool, true, false, nat_le, nat_lt, ◌&&◌, ◌||◌, ◌↔◌, cond, List, [], ◌∷◌, length, Option, Some, None, Ok, Err, IsTrue, is_some, eqb-true, refl, sym, ◌∙◌, ap, arith}
+use Rattle.std.proofs.Common.{◌≡◌, inl, inr, ◌⊎◌, ◌==◌, ℕ, zero, suc, ◌+◌, ◌-◌, ◌<◌, ◌≤◌, Bool, true, false, nat_le, nat_lt, ◌&&◌, ◌||◌, ◌↔◌}
+use Rattle.std.proofs.Common.{cond, List, [], ◌∷◌, length, Option, Some, None, Ok, Err, IsTrue, is_some, eqb-true, refl, sym, ◌∙◌, ap, arith}
 use Rattle.std.proofs.lemmas.Bool.{and_parts, cases_lt, leb-true, ltb-true}
 use Rattle.std.proofs.lemmas.Bool.Decides.{nat_tests}
 use Rattle.fd_cover.specs.Intervals.{has, IsWhole, IsNone}
@@ -122,7 +123,8 @@ pub live_of : (r : Record) (s : Session) → StandsIn r s → r.phase ≡ Open �
 live_of r s stands is = stands.holds (open_live s (sym stands.phase ∙ is))
 
 -- a session that is open and empty
-fresh_of : (phase : Phase) (taken : List Piece) (header : Option (List ℕ)) (b : Bool) → phase ≡ Open → header ≡ None → (b ≡ true → taken ≡ []) → (taken ≡ [] → b ≡ true) → b ≡ is_empty phase taken header
+fresh_of : (phase : Phase) (taken : List Piece) (header : Option (List ℕ)) (b : Bool) → phase ≡ Open → header ≡ None →
+    (b ≡ true → taken ≡ []) → (taken ≡ [] → b ≡ true) → b ≡ is_empty phase taken header
 fresh_of Open [] None b is none f g = g refl
 fresh_of Open (p ∷ ps) None b is none f g = same_truth b false (λ t. absurd (taken_none p ps (f t))) (λ t. absurd (cc))
   where

@@ -30,7 +30,9 @@ there_made old mid name step c is =
     let b = before old (Create name ∷ []) c (sym step ∙ is) in
     subst (λ (o : Option (List ℕ)). IsSome o) (sym (b.file name ∙ ap (λ (t : Bool). cond t (Some []) (file_of b.was name)) (bytes_eq-same name))) refl
 
-pub there_written : (old mid now : Option Contents) (name : List ℕ) (at : ℕ) (bytes : List ℕ) → mid ≡ with_entries old (Create name ∷ []) → now ≡ with_entries mid (Write name at bytes ∷ []) → Told now (λ c. IsSome (file_of c name))
+pub there_written : (old mid now : Option Contents) (name : List ℕ) (at : ℕ) (bytes : List ℕ) →
+    mid ≡ with_entries old (Create name ∷ []) → now ≡ with_entries mid (Write name at bytes ∷ []) →
+    Told now (λ c. IsSome (file_of c name))
 there_written old mid now name at bytes made step c is =
     let b = before mid (Write name at bytes ∷ []) c (sym step ∙ is) in
     let was : IsSome (file_of b.was name) = there_made old mid name made b.was b.told_was in

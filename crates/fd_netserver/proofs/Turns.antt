@@ -25,7 +25,8 @@ row-herald ss files input m is slot =
     ap (message_row ss files input) is
     ∙ ap (λ (b : Bool). cond b (herald_row ss files input.peer m) (session_row input.slot input.peer m (session_at ss input.slot))) (ap (λ (n : ℕ). n == 0) slot)
 
-row-port : (ss : List Session) (files : Files) (input : Input) (m : Message) → message_of input.bytes ≡ Some m → (input.slot ≡ 0 → ⊥) → row_of ss files input ≡ session_row input.slot input.peer m (session_at ss input.slot)
+row-port : (ss : List Session) (files : Files) (input : Input) (m : Message) → message_of input.bytes ≡ Some m →
+    (input.slot ≡ 0 → ⊥) → row_of ss files input ≡ session_row input.slot input.peer m (session_at ss input.slot)
 unfolding row_of
 row-port ss files input m is slot =
     ap (message_row ss files input) is
@@ -33,8 +34,12 @@ row-port ss files input m is slot =
 
 pub no_message : (old : Option Contents) (rs : List Record) (input : Input) → message_of input.bytes ≡ None
     → (ss : List Session) → StandsFor rs ss → Adds (λ es. Told old (λ c. IsTurn ss (file_of c) (TurnOf input (Ignored skip.NotMessage) es))) old old
-no_message old rs input none ss stands =
-    ([], (λ c is. subst (λ (row : Row). IsRowTurn row (TurnOf input (Ignored skip.NotMessage) [])) (sym (row-none ss (file_of c) input none)) (inl (record { reply = refl; entries = refl }))), with_entries-nil old)
+no_message old rs input none ss stands = (
+  [],
+  (λ c is. subst (λ (row : Row). IsRowTurn row (TurnOf input (Ignored skip.NotMessage) []))
+      (sym (row-none ss (file_of c) input none)) (inl (record { reply = refl; entries = refl }))),
+  with_entries-nil old,
+)
 
 pub herald_turn : {E : Type 0} (result : Result Reply E) (old new : Option Contents) (rs : List Record) (input : Input) (m : Message) → message_of input.bytes ≡ Some m → input.slot ≡ 0
     → IfOk result (λ reply. (ss : List Session) (input' : Input) → StandsFor rs ss → Adds (λ es. Told old (λ c. IsRowTurn (herald_row ss (file_of c) input.peer m) (TurnOf input' reply es))) old new)
@@ -45,7 +50,9 @@ herald_turn (Ok reply) old new rs input m is slot turn = λ ss stands.
     (adds.0, (λ c told_c. subst (λ (row : Row). IsRowTurn row (TurnOf input reply adds.0)) (sym (row-herald ss (file_of c) input m is slot)) (adds.1 c told_c)), adds.2)
 
 pub session_turn : {E : Type 0} (result : Result Reply E) (old new : Option Contents) (rs : List Record) (input : Input) (m : Message) → message_of input.bytes ≡ Some m → (input.slot ≡ 0 → ⊥)
-    → IfOk result (λ reply. (ss : List Session) (input' : Input) → StandsFor rs ss → Adds (λ es. IsRowTurn (session_row input.slot input.peer m (session_at ss input.slot)) (TurnOf input' reply es)) old new)
+    → IfOk result (λ reply. (ss : List Session) (input' : Input) → StandsFor rs ss →
+    Adds (λ es. IsRowTurn (session_row input.slot input.peer m (session_at ss input.slot)) (TurnOf input' reply es)) old
+    new)
     → IfOk result (λ reply. (ss : List Session) → StandsFor rs ss → Adds (λ es. Told old (λ c. IsTurn ss (file_of c) (TurnOf input reply es))) old new)
 session_turn (Err e) old new rs input m is slot turn = tt
 session_turn (Ok reply) old new rs input m is slot turn = λ ss stands.

@@ -45,7 +45,10 @@ fn free_number<S: Site>(site: &mut S) -> Result<Option<u32>, Failed>
 pub(crate) fn make_next<S: Site>(site: &mut S) -> Result<Option<u32>, Failed>
     ensures number { IfOk result (λ number. Told (S.seen site.old).told (λ c. number ≡ free_number (file_of c))) }
     ensures ok { IfOk result (λ number. (S.seen site.new).told ≡ with_entries (S.seen site.old).told (made_of number)) }
-    ensures err { OnErr result (Adds (λ es. Told (S.seen site.old).told (λ c. (slot seqno : ℕ) → IsBegunRow (numbered (free_number (file_of c)) slot seqno) es)) (S.seen site.old).told (S.seen site.new).told) }
+    ensures err { OnErr result
+        (Adds (λ es. Told (S.seen site.old).told
+        (λ c. (slot seqno : ℕ) → IsBegunRow (numbered (free_number (file_of c)) slot seqno) es)) (S.seen site.old).told
+        (S.seen site.new).told) }
     ensures frame { Frame (S.seen site.old) (S.seen site.new) }
     ensures cause { OnErr result (Rose (S.seen site.old).faults (S.seen site.new).faults) }
 {

@@ -30,7 +30,8 @@ impl Pace {
     #[tactic(auto, using(crate::proofs::Pacing::waits_next, crate::proofs::Pacing::lingers_first, crate::proofs::Pacing::lingers_next))]
     pub fn next(self, limits: ServeLimits, finished: usize) -> Pace
         requires { 0 < self.left }
-        ensures paced { (before : List (Option Turn)) (last : Option Turn) → IsPaced limits self before → finished ≡ length (finished_in (before ++ last ∷ [])) → IsPaced limits result (before ++ last ∷ []) }
+        ensures paced { (before : List (Option Turn)) (last : Option Turn) → IsPaced limits self before →
+            finished ≡ length (finished_in (before ++ last ∷ [])) → IsPaced limits result (before ++ last ∷ []) }
         ensures less { result.left < self.left }
     {
         let left = self.left - 1;

@@ -152,7 +152,10 @@ impl Record {
     ) -> Result<Reply, AllocError>
         requires piece { IsPiece self.old (meant m.now) }
         requires there { Told (S.seen site.old).told (λ c. IsSome (file_of c (vmcore_name self.old.number))) }
-        ensures turn { IfOk result (λ reply. (input : Input) → Adds (λ es. IsRowTurn (StepsTo step.Writes slot self.old.number (meant m.now)) (TurnOf input reply es)) (S.seen site.old).told (S.seen site.new).told) }
+        ensures turn { IfOk result
+            (λ reply. (input : Input) →
+            Adds (λ es. IsRowTurn (StepsTo step.Writes slot self.old.number (meant m.now)) (TurnOf input reply es))
+            (S.seen site.old).told (S.seen site.new).told) }
         ensures stands { IfOk result (λ reply. (s : Session) → StandsIn self.old s → StandsIn self.new (session_after (meant m.now) reply s)) }
         ensures memory { OnErr result (S.seen site.new ≡ S.seen site.old) }
         ensures same { OnErr result (self.new ≡ self.old) }
@@ -182,7 +185,9 @@ impl Record {
         requires open_ { self.old.phase ≡ Open }
         requires plain { IsPlain header.now }
         requires there { Told (S.seen site.old).told (λ c. IsSome (file_of c (vmcore_name self.old.number))) }
-        ensures turn { (input : Input) → Adds (λ es. IsRowTurn (StepsTo (step.Ends header.now parity) slot self.old.number (meant m.now)) (TurnOf input result es)) (S.seen site.old).told (S.seen site.new).told }
+        ensures turn { (input : Input) →
+            Adds (λ es. IsRowTurn (StepsTo (step.Ends header.now parity) slot self.old.number (meant m.now))
+            (TurnOf input result es)) (S.seen site.old).told (S.seen site.new).told }
         ensures stands { (s : Session) → StandsIn self.old s → StandsIn self.new (session_after (meant m.now) result s) }
         ensures frame { Frame (S.seen site.old) (S.seen site.new) }
         ensures own { IsAtPort result }
@@ -208,7 +213,9 @@ impl Record {
         m: &Message<'_>,
     ) -> Result<Reply, AllocError>
         requires there { Told (S.seen site.old).told (λ c. self.old.phase ≡ Open → IsSome (file_of c (vmcore_name self.old.number))) }
-        ensures turn { IfOk result (λ reply. (s : Session) (input : Input) → StandsIn self.old s → Adds (λ es. IsRowTurn (session_row slot peer (meant m.now) (Some s)) (TurnOf input reply es)) (S.seen site.old).told (S.seen site.new).told) }
+        ensures turn { IfOk result (λ reply. (s : Session) (input : Input) → StandsIn self.old s →
+            Adds (λ es. IsRowTurn (session_row slot peer (meant m.now) (Some s)) (TurnOf input reply es)) (S.seen site.old).told
+            (S.seen site.new).told) }
         ensures stands { IfOk result (λ reply. (s : Session) → StandsIn self.old s → StandsIn self.new (session_after (meant m.now) reply s)) }
         ensures memory { OnErr result (S.seen site.new ≡ S.seen site.old) }
         ensures same { OnErr result (self.new ≡ self.old) }

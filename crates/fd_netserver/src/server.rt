@@ -86,7 +86,9 @@ impl Server {
     ) -> Result<Reply, AllocError>
         requires slot { 1 ≤ slot }
         requires there { Told (S.seen site.old).told (λ c. AreThere self.old (file_of c)) }
-        ensures turn { IfOk result (λ reply. (ss : List Session) (input : Input) → StandsFor self.old ss → Adds (λ es. IsRowTurn (session_row slot peer (meant m.now) (session_at ss slot)) (TurnOf input reply es)) (S.seen site.old).told (S.seen site.new).told) }
+        ensures turn { IfOk result (λ reply. (ss : List Session) (input : Input) → StandsFor self.old ss →
+            Adds (λ es. IsRowTurn (session_row slot peer (meant m.now) (session_at ss slot)) (TurnOf input reply es))
+            (S.seen site.old).told (S.seen site.new).told) }
         ensures stands { IfOk result (λ reply. (ss : List Session) → StandsFor self.old ss → StandsFor self.new (change_at (session_after (meant m.now) reply) ss slot)) }
         ensures memory { OnErr result (S.seen site.new ≡ S.seen site.old) }
         ensures same { OnErr result (self.new ≡ self.old) }
@@ -105,8 +107,13 @@ impl Server {
     // Opens a session in the next slot.
     fn open<S: Site>(&mut self, site: &mut S, peer: Peer, seqno: u32) -> Result<Reply, AllocError>
         requires room { length self.old < 16 }
-        ensures turn { IfOk result (λ reply. (input : Input) → Adds (λ es. Told (S.seen site.old).told (λ c. IsRowTurn (numbered (free_number (file_of c)) (length self.old + 1) seqno) (TurnOf input reply es))) (S.seen site.old).told (S.seen site.new).told) }
-        ensures stands { IfOk result (λ reply. (ss : List Session) (bytes : List ℕ) → StandsFor self.old ss → StandsFor self.new (after_reply ss (record { slot = 0; peer = peer; bytes = bytes }) reply)) }
+        ensures turn { IfOk result
+            (λ reply. (input : Input) →
+            Adds (λ es. Told (S.seen site.old).told
+            (λ c. IsRowTurn (numbered (free_number (file_of c)) (length self.old + 1) seqno) (TurnOf input reply es)))
+            (S.seen site.old).told (S.seen site.new).told) }
+        ensures stands { IfOk result (λ reply. (ss : List Session) (bytes : List ℕ) → StandsFor self.old ss →
+            StandsFor self.new (after_reply ss (record { slot = 0; peer = peer; bytes = bytes }) reply)) }
         ensures memory { OnErr result (S.seen site.new ≡ S.seen site.old) }
         ensures same { OnErr result (self.new ≡ self.old) }
         ensures frame { Frame (S.seen site.old) (S.seen site.new) }
@@ -141,8 +148,12 @@ impl Server {
         peer: Peer,
         m: &Message<'_>,
     ) -> Result<Reply, AllocError>
-        ensures turn { IfOk result (λ reply. (ss : List Session) (input : Input) → StandsFor self.old ss → Adds (λ es. Told (S.seen site.old).told (λ c. IsRowTurn (herald_row ss (file_of c) peer (meant m.now)) (TurnOf input reply es))) (S.seen site.old).told (S.seen site.new).told) }
-        ensures stands { IfOk result (λ reply. (ss : List Session) (bytes : List ℕ) → StandsFor self.old ss → StandsFor self.new (after_reply ss (record { slot = 0; peer = peer; bytes = bytes }) reply)) }
+        ensures turn { IfOk result (λ reply. (ss : List Session) (input : Input) → StandsFor self.old ss →
+            Adds (λ es. Told (S.seen site.old).told
+            (λ c. IsRowTurn (herald_row ss (file_of c) peer (meant m.now)) (TurnOf input reply es))) (S.seen site.old).told
+            (S.seen site.new).told) }
+        ensures stands { IfOk result (λ reply. (ss : List Session) (bytes : List ℕ) → StandsFor self.old ss →
+            StandsFor self.new (after_reply ss (record { slot = 0; peer = peer; bytes = bytes }) reply)) }
         ensures memory { OnErr result (S.seen site.new ≡ S.seen site.old) }
         ensures same { OnErr result (self.new ≡ self.old) }
         ensures frame { Frame (S.seen site.old) (S.seen site.new) }
@@ -171,7 +182,10 @@ impl Server {
         bytes: &[u8],
     ) -> Result<Reply, AllocError>
         requires there { Told (S.seen site.old).told (λ c. AreThere self.old (file_of c)) }
-        ensures turn { IfOk result (λ reply. (ss : List Session) → StandsFor self.old ss → Adds (λ es. Told (S.seen site.old).told (λ c. IsTurn ss (file_of c) (TurnOf (record { slot = slot; peer = peer; bytes = bytes.now }) reply es))) (S.seen site.old).told (S.seen site.new).told) }
+        ensures turn { IfOk result (λ reply. (ss : List Session) → StandsFor self.old ss →
+            Adds (λ es. Told (S.seen site.old).told
+            (λ c. IsTurn ss (file_of c) (TurnOf (record { slot = slot; peer = peer; bytes = bytes.now }) reply es)))
+            (S.seen site.old).told (S.seen site.new).told) }
         ensures stands { IfOk result (λ reply. (ss : List Session) → StandsFor self.old ss → StandsFor self.new (after_reply ss (record { slot = slot; peer = peer; bytes = bytes.now }) reply)) }
         ensures memory { OnErr result (S.seen site.new ≡ S.seen site.old) }
         ensures same { OnErr result (self.new ≡ self.old) }

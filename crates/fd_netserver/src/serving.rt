@@ -61,9 +61,13 @@ fn take_input<P: Ports, S: Site>(
 ) -> Result<(), ServeFault>
     requires noted { length list.old.items ≡ dones server.old }
     requires there { Told (S.seen site.old).told (λ c. AreThere server.old (file_of c)) }
-    ensures ok { OnOk result (GoesOn (S.seen site.old) (S.seen site.new) (P.seen ports.old).told (P.seen ports.new).told server.old server.new (record { slot = slot; peer = peer; bytes = bytes.now }) list.old.items list.new.items) }
+    ensures ok { OnOk result
+        (GoesOn (S.seen site.old) (S.seen site.new) (P.seen ports.old).told (P.seen ports.new).told server.old server.new
+        (record { slot = slot; peer = peer; bytes = bytes.now }) list.old.items list.new.items) }
     ensures noted { OnOk result (length list.new.items ≡ dones server.new) }
-    ensures err { IfErr result (BreaksInput (S.seen site.old) (S.seen site.new) (P.seen ports.old).told (P.seen ports.new).told server.old (record { slot = slot; peer = peer; bytes = bytes.now }) list.old.items list.new.items) }
+    ensures err { IfErr result
+        (BreaksInput (S.seen site.old) (S.seen site.new) (P.seen ports.old).told (P.seen ports.new).told server.old
+        (record { slot = slot; peer = peer; bytes = bytes.now }) list.old.items list.new.items) }
     ensures frame { Frame (S.seen site.old) (S.seen site.new) }
     ensures count { (P.seen ports.old).faults ≤ (P.seen ports.new).faults }
     ensures cause { IsErrOf result fault.PortsFault → Rose (P.seen ports.old).faults (P.seen ports.new).faults }

@@ -27,7 +27,9 @@ pub(crate) enum Step {
 /// With bytes of the dump, where the session is open.
 pub(crate) fn piece_step(m: &Message<'_>) -> Step
     requires { (meant m.now).kind ≡ vmcore }
-    ensures row { (slot number : ℕ) → (if nat_lt (2 ^ 40) ((meant m.now).offset + length (meant m.now).body) then Skips skip.TooFar else piece_row slot (meant m.now).seqno number (meant m.now).offset (meant m.now).body) ≡ StepsTo result slot number (meant m.now) }
+    ensures row { (slot number : ℕ) →
+        (if nat_lt (2 ^ 40) ((meant m.now).offset + length (meant m.now).body) then Skips skip.TooFar else piece_row slot
+        (meant m.now).seqno number (meant m.now).offset (meant m.now).body) ≡ StepsTo result slot number (meant m.now) }
     ensures open_ { (r : Record) → r.phase ≡ Open → IsOpenStep result r (meant m.now) }
 {
     if u128::from(m.offset) + m.body.len() as u128 > 1 << 40 {

@@ -24,7 +24,8 @@ use Rattle.fd_site.specs.declared.ports.Peer.{Peer}
 use Rattle.fd_networld.specs.Delivery.{IsCarried, IsSendable, IsSending, WasAnswered}
 use Rattle.fd_networld.specs.Lawful.{IsLawful, WasDelivered, contents_with}
 use Rattle.fd_networld.specs.Sent.{all_answers, client_peer, port_of_slot, sent_in}
-use Rattle.fd_networld.specs.World.{AreForeign, Does, Follows, IsForeign, IsTaken, Stays, Takes, WillFail, Begins, Story, answering, arriving, beginning, client_after, hearing, runs_of, sending, served_in, state_after, step_of}
+use Rattle.fd_networld.specs.World.{AreForeign, Does, Follows, IsForeign, IsTaken, Stays, Takes, WillFail, Begins, Story, answering}
+use Rattle.fd_networld.specs.World.{arriving, beginning, client_after, hearing, runs_of, sending, served_in, state_after, step_of}
 use Rattle.fd_networld.specs.Watched.{IsCalm}
 use Rattle.fd_networld.specs.declared.answer.Answer.{Answer}
 use Rattle.fd_networld.specs.declared.event.Event.{Event}
@@ -76,7 +77,8 @@ module _ (dump : List ℕ) (h : Header) (patience : Patience) where
     sends (want.TimedOut s) wanted next does = stays next does
 
     -- a poll that brings what was answered
-    got : (port : ℕ) (bytes : List ℕ) → WasAnswered client_peer turns (Got port bytes) → (w : Want) → want_of was.client.state ≡ w → (next : Story) → Does (hearing (Got port bytes) w) was next → Holds next
+    got : (port : ℕ) (bytes : List ℕ) → WasAnswered client_peer turns (Got port bytes) → (w : Want) →
+        want_of was.client.state ≡ w → (next : Story) → Does (hearing (Got port bytes) w) was next → Holds next
     got port bytes answered want.Poll wanted next does =
         goes (Got port bytes) next (polled_step dump h patience (start patience (chunks dump)) was.trace was.client.state (Got port bytes) holds.passes wanted tt) answered does
     got port bytes answered (want.Send s) wanted next does = stays next does
@@ -141,7 +143,15 @@ module _ (dump : List ℕ) (h : Header) (patience : Patience) where
     })
 
     fails : (next : Story) → Does WillFail was next → Holds next
-    fails next is = subst Holds (sym is) (record { patience_is = holds.patience_is; passes = holds.passes; runs = holds.runs; contents = holds.contents; calm = record { fails = holds.calm.fails; next = λ e. refl }; carried = holds.carried })
+    fails next is = subst Holds (sym is)
+        (record {
+          patience_is = holds.patience_is;
+          passes = holds.passes;
+          runs = holds.runs;
+          contents = holds.contents;
+          calm = record { fails = holds.calm.fails; next = λ e. refl };
+          carried = holds.carried;
+        })
 
     pub holds_next : (event : Event) → IsForeign event → (next : Story) → Does (step_of dump h was event) was next → Holds next
     holds_next Send foreign next does = sends (want_of was.client.state) refl next does
@@ -182,5 +192,6 @@ module _ (dump : List ℕ) (h : Header) (patience : Patience) where
   pub all_lawful : 1 ≤ patience.polls → (events : List Event) → AreForeign events → (story : Story) → Follows dump h (beginning (chunks dump) patience) events story → IsLawful dump h patience story
   all_lawful some events foreign story follows = is_lawful some story (holds_all (beginning (chunks dump) patience) holds_first events foreign story follows)
 
-  pub all_delivered : IsSendable dump h → 1 ≤ patience.polls → (events : List Event) → AreForeign events → (story : Story) → Follows dump h (beginning (chunks dump) patience) events story → WasDelivered dump h story
+  pub all_delivered : IsSendable dump h → 1 ≤ patience.polls → (events : List Event) → AreForeign events → (story : Story) →
+      Follows dump h (beginning (chunks dump) patience) events story → WasDelivered dump h story
   all_delivered sendable some events foreign story follows = was_delivered some story (holds_all (beginning (chunks dump) patience) holds_first events foreign story follows) sendable

@@ -52,8 +52,21 @@ module _ (dump : List ℕ) (h : Header) (sendable : IsSendable dump h) where
       let fits : s < 2 ^ 32 = omega (arith, is.most) in
       cases s IsMessage
       (λ one. record { kind = record { least = omega arith; most = omega arith }; seqno = fits; offset = omega arith; aux = omega arith; body = omega arith })
-      (λ isnt below. record { kind = record { least = omega arith; most = omega arith }; seqno = fits; offset = omega (arith, chunk_inside s is.least isnt below); aux = omega arith; body = omega (arith, length-chunk (4096 * (s - 2))) })
-      (λ header. record { kind = record { least = omega arith; most = omega arith }; seqno = fits; offset = omega arith; aux = omega arith; body = omega (arith, length-dump_header h sendable.within.fits) })
+      (λ isnt below. record {
+        kind = record { least = omega arith; most = omega arith };
+        seqno = fits;
+        offset = omega (arith, chunk_inside s is.least isnt below);
+        aux = omega arith;
+        body =
+            omega (arith, length-chunk (4096 * (s - 2)));
+      })
+      (λ header. record {
+        kind = record { least = omega arith; most = omega arith };
+        seqno = fits;
+        offset = omega arith;
+        aux = omega arith;
+        body = omega (arith, length-dump_header h sendable.within.fits);
+      })
       (λ above isnt. record { kind = record { least = omega arith; most = omega arith }; seqno = fits; offset = omega arith; aux = omega arith; body = omega arith })
 
   -- a datagram that was sent
@@ -83,7 +96,9 @@ module _ (dump : List ℕ) (h : Header) (sendable : IsSendable dump h) where
   differs a b e other = absurd (other e)
 
   says_piece : (s : ℕ) → IsNumber (chunks dump) s → TakesPiece (content dump h s)
-  says_piece s is = cases s TakesPiece (λ one e. absurd (omega arith)) (λ isnt below e. is_piece (4096 * (s - 2)) (chunk_inside s is.least isnt below)) (λ header e. absurd (omega arith)) (λ above isnt e. absurd (omega arith))
+  says_piece s is = cases s TakesPiece (λ one e. absurd (omega arith))
+      (λ isnt below e. is_piece (4096 * (s - 2)) (chunk_inside s is.least isnt below)) (λ header e. absurd (omega arith))
+      (λ above isnt e. absurd (omega arith))
 
   says_header : (s : ℕ) → TakesHeader (content dump h s)
   says_header s = cases s TakesHeader (λ one e. absurd (omega arith)) (λ isnt below e. absurd (omega arith)) (λ header e. refl) (λ above isnt e. absurd (omega arith))

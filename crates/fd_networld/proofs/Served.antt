@@ -66,7 +66,9 @@ module _ (dump : List ℕ) (h : Header) (sendable : IsSendable dump h) (peer : P
   seqno_is s = cases dump h sendable s (λ m. m.seqno ≡ s) (λ e. refl) (λ isnt below. refl) (λ e. refl) (λ above isnt. refl)
 
   -- the turn that answered the last number
-  end_answered : (t : Turn) (bytes : List ℕ) → IsAnswer peer bytes t → AnswersOwn t → (t.input.peer ≡ peer → OneOf (IsSending t.input.bytes) trace) → from_be_bytes w32 bytes ≡ last → IsEndAnswered dump (dump_header h) peer t
+  end_answered : (t : Turn) (bytes : List ℕ) → IsAnswer peer bytes t → AnswersOwn t →
+      (t.input.peer ≡ peer → OneOf (IsSending t.input.bytes) trace) → from_be_bytes w32 bytes ≡ last →
+      IsEndAnswered dump (dump_header h) peer t
   end_answered t bytes is own sending last_is =
       let mine : IsOwn t.input bytes = own bytes is.is in
       let it : IsOurs dump h sendable t.input = ours dump h sendable t.input trace said (sending is.peer_is) in
@@ -163,7 +165,8 @@ pub was_served : (dump : List ℕ) (h : Header) (patience : Patience) (trace : L
 was_served dump h patience trace peer c before runs sendable complete are journal carried =
     let said : Each (IsSaid dump h) trace = each_said dump h patience trace Done complete in
     let turns : List Turn = all_turns runs in
-    elim (search_runs dump (dump_header h) peer h (its_header dump h sendable) sendable.dumplength (files_after c.base_file before) runs (all_saying dump h sendable peer trace said turns carried.inputs) are) [
+    elim (search_runs dump (dump_header h) peer h (its_header dump h sendable) sendable.dumplength
+    (files_after c.base_file before) runs (all_saying dump h sendable peer trace said turns carried.inputs) are) [
       | inr found ↦ delivered dump h sendable peer c before turns journal found
       | inl quiet ↦ absurd (not_quiet dump h sendable peer trace said turns trace carried.answers (done_heard dump h patience trace complete)
           (λ bytes is one. no_answer dump h sendable peer trace said turns bytes quiet (own_runs (files_after c.base_file before) runs are) carried.inputs is one))

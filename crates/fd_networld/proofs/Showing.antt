@@ -1,5 +1,6 @@
 -- The world that the code has is that of a story, call by call.
-use Rattle.std.proofs.Common.{◌≡◌, ◌⊎◌, inl, inr, ℕ, zero, suc, ◌-◌, ◌<◌, ◌≤◌, true, false, nat_le, List, [], ◌∷◌, ◌++◌, map, Option, Some, None, IsSome, IfSome, slice_get, Result, Ok, Err, OnOk, refl, sym, ◌∙◌, ap, subst, arith}
+use Rattle.std.proofs.Common.{◌≡◌, ◌⊎◌, inl, inr, ℕ, zero, suc, ◌-◌, ◌<◌, ◌≤◌, true, false, nat_le, List, [], ◌∷◌, ◌++◌, map, Option}
+use Rattle.std.proofs.Common.{Some, None, IsSome, IfSome, slice_get, Result, Ok, Err, OnOk, refl, sym, ◌∙◌, ap, subst, arith}
 use Rattle.std.proofs.lemmas.Bool.{cond_both}
 use Rattle.std.proofs.lemmas.Bool.Decides.{nat_tests}
 use Rattle.std.proofs.lemmas.List.{map-append}
@@ -148,7 +149,8 @@ module _ (story : Story) (was : World) (shows : Shows story was) where
       fed = λ fed. taken.fed;
     }
 
-  pub delivers_now : (slot : ℕ) (peer : Peer) (bytes : List ℕ) (now : World) → slot ≤ 16 → HasTaken (record { slot = slot; peer = peer; bytes = bytes }) was now → IsNow (arriving slot peer (Some bytes)) story now
+  pub delivers_now : (slot : ℕ) (peer : Peer) (bytes : List ℕ) (now : World) → slot ≤ 16 →
+      HasTaken (record { slot = slot; peer = peer; bytes = bytes }) was now → IsNow (arriving slot peer (Some bytes)) story now
   delivers_now slot peer bytes now low taken =
       cond_both (nat_le slot 16) (Takes (record { slot = slot; peer = peer; bytes = bytes })) Stays (λ step. IsNow step story now)
       (λ is. takes_now (record { slot = slot; peer = peer; bytes = bytes }) now taken)

@@ -17,7 +17,9 @@ use Rattle.fd_networld.specs.World.{Shows, Story, runs_of}
 use Rattle.fd_networld.specs.declared.world.World.{World}
 use Rattle.fd_networld.proofs.Running.{last_run, turns-split}
 
-module _ (story : Story) (w : World) (runs : AreServerRuns (file_in []) (runs_of story)) (contents : contents_of story.site.disk ≡ contents_with (entries_in (all_turns (runs_of story)))) (shows : Shows story w) where
+module _ (story : Story) (w : World) (runs : AreServerRuns (file_in []) (runs_of story))
+    (contents : contents_of story.site.disk ≡ contents_with (entries_in (all_turns (runs_of story))))
+    (shows : Shows story w) where
   abbrev before : List Entry
   before = entries_in (all_turns story.earlier)
 

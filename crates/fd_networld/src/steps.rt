@@ -136,8 +136,12 @@ impl World {
         requires most { one_if self.old.waiting ≤ MOST }
         requires one { one_if self.old.waiting ≤ 1 }
         ensures others { self.new ≡ record self.old { server = self.new.server; site = self.new.site; waiting = self.new.waiting } }
-        ensures turn { IfOk result (λ reply. (ss : List Session) → StandsFor self.old.server ss → Adds (λ es. Told (seen_of self.old.site).told (λ c. IsTurn ss (file_of c) (TurnOf (record { slot = slot; peer = peer; bytes = bytes.now }) reply es))) (seen_of self.old.site).told (seen_of self.new.site).told) }
-        ensures stands { IfOk result (λ reply. (ss : List Session) → StandsFor self.old.server ss → StandsFor self.new.server (after_reply ss (record { slot = slot; peer = peer; bytes = bytes.now }) reply)) }
+        ensures turn { IfOk result (λ reply. (ss : List Session) → StandsFor self.old.server ss →
+            Adds (λ es. Told (seen_of self.old.site).told
+            (λ c. IsTurn ss (file_of c) (TurnOf (record { slot = slot; peer = peer; bytes = bytes.now }) reply es)))
+            (seen_of self.old.site).told (seen_of self.new.site).told) }
+        ensures stands { IfOk result (λ reply. (ss : List Session) → StandsFor self.old.server ss →
+            StandsFor self.new.server (after_reply ss (record { slot = slot; peer = peer; bytes = bytes.now }) reply)) }
         ensures block { OnOk result (self.new.site.block ≡ self.old.site.block) }
         ensures calm { OnOk result (HasCalm self.new) }
         ensures few { OnOk result (one_if self.new.waiting ≤ MOST) }

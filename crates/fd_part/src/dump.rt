@@ -38,9 +38,15 @@ fn write_parts<S: Site, P: Pieces>(
     requires pages { length (P.to_come pieces.old) % 4096 ≡ 0 }
     requires labels { FitsFields header.now }
     requires room { need_of (S.seen site.old).block (length (P.to_come pieces.old)) ≤ (S.seen site.old).size }
-    ensures whole { IfOk result (λ wrote. IfWhole wrote (Adds (IsDumpJournal (P.to_come pieces.old) header.now (S.seen site.old).size (S.seen site.old).block) (S.seen site.old).told (S.seen site.new).told)) }
+    ensures whole { IfOk result
+        (λ wrote. IfWhole wrote
+        (Adds (IsDumpJournal (P.to_come pieces.old) header.now (S.seen site.old).size (S.seen site.old).block)
+        (S.seen site.old).told (S.seen site.new).told)) }
     ensures enough { IfOk result (λ wrote. IfWhole wrote (length (dump_sectors (P.to_come pieces.old) header.now (S.seen site.old).size (S.seen site.old).block) ≤ left)) }
-    ensures stopped { IfOk result (λ wrote. IfStopped wrote (Stops (IsDumpJournal (P.to_come pieces.old) header.now (S.seen site.old).size (S.seen site.old).block) left (S.seen site.old).told (S.seen site.new).told)) }
+    ensures stopped { IfOk result
+        (λ wrote. IfStopped wrote
+        (Stops (IsDumpJournal (P.to_come pieces.old) header.now (S.seen site.old).size (S.seen site.old).block) left
+        (S.seen site.old).told (S.seen site.new).told)) }
     ensures fault { OnErr result (Begins (IsDumpJournal (P.to_come pieces.old) header.now (S.seen site.old).size (S.seen site.old).block) (S.seen site.old).told (S.seen site.new).told) }
     ensures frame { Frame (S.seen site.old) (S.seen site.new) }
     ensures cause { OnErr result (Rose (S.seen site.old).faults (S.seen site.new).faults) }
@@ -102,15 +108,22 @@ pub fn write_dump<S: Site, P: Pieces>(
     requires small { length (P.to_come pieces.old) ≤ 2 ^ 62 }
     requires labels { FitsFields header.now }
     requires blocksize { header.now.blocksize ≡ (S.seen site.old).block }
-    ensures room { (S.seen site.old).size < need_of (S.seen site.old).block (length (P.to_come pieces.old)) → IsErrOf result (PartFault.NoRoom (record { need = need_of (S.seen site.old).block (length (P.to_come pieces.old)); have = (S.seen site.old).size })) }
+    ensures room { (S.seen site.old).size < need_of (S.seen site.old).block (length (P.to_come pieces.old)) →
+        IsErrOf result (PartFault.NoRoom
+        (record { need = need_of (S.seen site.old).block (length (P.to_come pieces.old)); have = (S.seen site.old).size })) }
     ensures no_room { OnNoRoom result ((S.seen site.old).size < need_of (S.seen site.old).block (length (P.to_come pieces.old))) }
     ensures untouched { OnNoRoom result (site.new ≡ site.old) }
     ensures untaken { OnNoRoom result (pieces.new ≡ pieces.old) }
     ensures whole { OnWhole result (Adds (IsDumpJournal (P.to_come pieces.old) header.now (S.seen site.old).size (S.seen site.old).block) (S.seen site.old).told (S.seen site.new).told) }
     ensures enough { OnWhole result (IfSome stop (λ n. length (dump_sectors (P.to_come pieces.old) header.now (S.seen site.old).size (S.seen site.old).block) ≤ n)) }
-    ensures stopped { OnStopped result (IsSomeAnd stop (λ n. Adds (IsStoppedDump (P.to_come pieces.old) header.now (S.seen site.old).size (S.seen site.old).block n) (S.seen site.old).told (S.seen site.new).told)) }
+    ensures stopped { OnStopped result
+        (IsSomeAnd stop (λ n.
+        Adds (IsStoppedDump (P.to_come pieces.old) header.now (S.seen site.old).size (S.seen site.old).block n)
+        (S.seen site.old).told (S.seen site.new).told)) }
     ensures short { OnStopped result (IsSomeAnd stop (λ n. n < length (dump_sectors (P.to_come pieces.old) header.now (S.seen site.old).size (S.seen site.old).block))) }
-    ensures fault { IsErrOf result PartFault.SiteFault → Adds (IsBegunDump (P.to_come pieces.old) header.now (S.seen site.old).size (S.seen site.old).block) (S.seen site.old).told (S.seen site.new).told }
+    ensures fault { IsErrOf result PartFault.SiteFault →
+        Adds (IsBegunDump (P.to_come pieces.old) header.now (S.seen site.old).size (S.seen site.old).block)
+        (S.seen site.old).told (S.seen site.new).told }
     ensures frame { Frame (S.seen site.old) (S.seen site.new) }
     ensures cause { IsErrOf result PartFault.SiteFault → Rose (S.seen site.old).faults (S.seen site.new).faults }
 {

@@ -57,12 +57,20 @@ pub fn write_marked<S: Site, P: Pieces>(
     requires small { length (P.to_come pieces.old) ≤ 2 ^ 62 }
     requires labels { FitsFields header.now }
     requires blocksize { header.now.blocksize ≡ (S.seen site.old).block }
-    ensures room { (S.seen site.old).size < need_of (S.seen site.old).block (length (P.to_come pieces.old)) → IsErrOf result (PartFault.NoRoom (record { need = need_of (S.seen site.old).block (length (P.to_come pieces.old)); have = (S.seen site.old).size })) }
+    ensures room { (S.seen site.old).size < need_of (S.seen site.old).block (length (P.to_come pieces.old)) →
+        IsErrOf result (PartFault.NoRoom
+        (record { need = need_of (S.seen site.old).block (length (P.to_come pieces.old)); have = (S.seen site.old).size })) }
     ensures no_room { OnLacking result ((S.seen site.old).size < need_of (S.seen site.old).block (length (P.to_come pieces.old))) }
     ensures untouched { OnLacking result (site.new ≡ site.old) }
     ensures untaken { OnLacking result (pieces.new ≡ pieces.old) }
-    ensures marked { OnOk result (Adds (λ es. Told (S.seen site.old).told (λ c. IsMarkedJournal (part_of c) (P.to_come pieces.old) header.now (S.seen site.old).block es)) (S.seen site.old).told (S.seen site.new).told) }
-    ensures fault { IsErrOf result PartFault.SiteFault → Adds (λ es. Told (S.seen site.old).told (λ c. IsBegunMarked (part_of c) (P.to_come pieces.old) header.now (S.seen site.old).block es)) (S.seen site.old).told (S.seen site.new).told }
+    ensures marked { OnOk result
+        (Adds (λ es. Told (S.seen site.old).told
+        (λ c. IsMarkedJournal (part_of c) (P.to_come pieces.old) header.now (S.seen site.old).block es)) (S.seen site.old).told
+        (S.seen site.new).told) }
+    ensures fault { IsErrOf result PartFault.SiteFault →
+        Adds (λ es. Told (S.seen site.old).told
+        (λ c. IsBegunMarked (part_of c) (P.to_come pieces.old) header.now (S.seen site.old).block es)) (S.seen site.old).told
+        (S.seen site.new).told }
     ensures frame { Frame (S.seen site.old) (S.seen site.new) }
     ensures cause { IsErrOf result PartFault.SiteFault → Rose (S.seen site.old).faults (S.seen site.new).faults }
 {

@@ -1,5 +1,6 @@
 -- A file that is made of a part of the partition, piece by piece.
-use Rattle.std.proofs.Common.{◌≡◌, ℕ, ◌+◌, ◌-◌, ◌≤◌, List, [], ◌∷◌, ◌++◌, length, take, drop, slice_range, Option, Some, None, IsSome, Result, Ok, Err, OnErr, OnOk, refl, sym, ◌∙◌, ap, arith, length-append, take-add}
+use Rattle.std.proofs.Common.{◌≡◌, ℕ, ◌+◌, ◌-◌, ◌≤◌, List, [], ◌∷◌, ◌++◌, length, take, drop, slice_range, Option, Some, None}
+use Rattle.std.proofs.Common.{IsSome, Result, Ok, Err, OnErr, OnOk, refl, sym, ◌∙◌, ap, arith, length-append, take-add}
 use Rattle.std.proofs.lemmas.List.{drop-drop}
 use Rattle.fd_site.specs.Contents.{Adds, Contents, IsFailedFile, Told, file_of, nothing_told, part_of, with_entries}
 use Rattle.fd_site.specs.FileJournal.{IsBegunFile, IsFileJournal, IsWrittenFile}

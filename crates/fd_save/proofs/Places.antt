@@ -30,13 +30,21 @@ whole_blocks size block good = grind (arith, nat_tests)
 
 by_size : (size block : ℕ) → (block ≡ 512) ⊎ ((block ≡ 1024) ⊎ ((block ≡ 2048) ⊎ (block ≡ 4096))) → 0 < size → size % block ≡ 0 → IsOfBlocks size block
 by_size size block (inl is) some whole =
-    subst (IsOfBlocks size) (sym is) (let w : size % 512 ≡ 0 = subst (λ b. size % b ≡ 0) is whole in record { low = omega arith; some = omega arith; sectors = omega arith; whole = λ n h. omega arith; size_whole = w })
+    subst (IsOfBlocks size) (sym is)
+    (let w : size % 512 ≡ 0 = subst (λ b. size % b ≡ 0) is whole in
+    record { low = omega arith; some = omega arith; sectors = omega arith; whole = λ n h. omega arith; size_whole = w })
 by_size size block (inr (inl is)) some whole =
-    subst (IsOfBlocks size) (sym is) (let w : size % 1024 ≡ 0 = subst (λ b. size % b ≡ 0) is whole in record { low = omega arith; some = omega arith; sectors = omega arith; whole = λ n h. omega arith; size_whole = w })
+    subst (IsOfBlocks size) (sym is)
+    (let w : size % 1024 ≡ 0 = subst (λ b. size % b ≡ 0) is whole in
+    record { low = omega arith; some = omega arith; sectors = omega arith; whole = λ n h. omega arith; size_whole = w })
 by_size size block (inr (inr (inl is))) some whole =
-    subst (IsOfBlocks size) (sym is) (let w : size % 2048 ≡ 0 = subst (λ b. size % b ≡ 0) is whole in record { low = omega arith; some = omega arith; sectors = omega arith; whole = λ n h. omega arith; size_whole = w })
+    subst (IsOfBlocks size) (sym is)
+    (let w : size % 2048 ≡ 0 = subst (λ b. size % b ≡ 0) is whole in
+    record { low = omega arith; some = omega arith; sectors = omega arith; whole = λ n h. omega arith; size_whole = w })
 by_size size block (inr (inr (inr is))) some whole =
-    subst (IsOfBlocks size) (sym is) (let w : size % 4096 ≡ 0 = subst (λ b. size % b ≡ 0) is whole in record { low = omega arith; some = omega arith; sectors = omega arith; whole = λ n h. omega arith; size_whole = w })
+    subst (IsOfBlocks size) (sym is)
+    (let w : size % 4096 ≡ 0 = subst (λ b. size % b ≡ 0) is whole in
+    record { low = omega arith; some = omega arith; sectors = omega arith; whole = λ n h. omega arith; size_whole = w })
 
 of_blocks : (size block : ℕ) → IsTrue (is_good size block) → IsOfBlocks size block
 of_blocks size block good = by_size size block (block_sizes size block good) (some_blocks size block good) (whole_blocks size block good)

@@ -1,5 +1,7 @@
 -- Wherever a machine stops while a dump is saved and cleared, the dump is on the partition or in its files.
-use Rattle.std.proofs.Common.{◌≡◌, ◌≢◌, ◌⊎◌, inl, inr, ℕ, ◌+◌, ◌-◌, ◌≤◌, Bool, true, false, ◌&&◌, not, IsTrue, List, [], ◌∷◌, ◌++◌, length, take, drop, Option, Some, None, is_none, All, Result, Ok, Err, refl, sym, ◌∙◌, ap, subst, arith, length-append, length-drop, append_assoc}
+use Rattle.std.proofs.Common.{◌≡◌, ◌≢◌, ◌⊎◌, inl, inr, ℕ, ◌+◌, ◌-◌, ◌≤◌, Bool, true, false, ◌&&◌, not, IsTrue, List}
+use Rattle.std.proofs.Common.{[], ◌∷◌, ◌++◌, length, take, drop, Option, Some, None, is_none, All, Result, Ok, Err}
+use Rattle.std.proofs.Common.{refl, sym, ◌∙◌, ap, subst, arith, length-append, length-drop, append_assoc}
 use Rattle.std.proofs.lemmas.List.{drop-drop, drop-take, length-take-le, take-append-drop}
 use Rattle.fd_site.specs.Begun.{IsBegun}
 use Rattle.fd_site.specs.Contents.{Contents, file_of, part_of}
@@ -24,7 +26,8 @@ use Rattle.fd_save.specs.Laws.{IsSavecore, then_adds}
 use Rattle.fd_save.specs.Number.{IsFirstFree, IsNumberOf, is_free}
 use Rattle.fd_save.specs.Saving.{IsSaveJournal, cleared_sector, clearing, device_name, parity_of}
 use Rattle.fd_save.proofs.Places.{trailing_inside}
-use Rattle.fd_save.proofs.Offs.{AllOff, AllOff-all, AllOff-append, AllOff-take, Settles, begun_off, drop_behind, file_after-off, file_off, first_off, settles_behind, settles_then, settles_whole, stable_after-off, take_behind}
+use Rattle.fd_save.proofs.Offs.{AllOff, AllOff-all, AllOff-append, AllOff-take, Settles, begun_off, drop_behind, file_after-off}
+use Rattle.fd_save.proofs.Offs.{file_off, first_off, settles_behind, settles_then, settles_whole, stable_after-off, take_behind}
 use Rattle.fd_save.proofs.Torn.{AllFiles, AllFiles-append, AllFiles-one, IsWritten, stays, with_bytes}
 
 -- the sector of a dump that judging finds is the trailing block's first

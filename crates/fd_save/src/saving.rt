@@ -62,8 +62,12 @@ fn save_files<S: Site>(site: &mut S, saved: &Saved) -> Result<(), Failed>
     requires good { IsTrue (is_good (S.seen site.old).size (S.seen site.old).block) }
     requires small { saved.now.number < 65536 }
     requires placed { IsPlaced (S.seen site.old).size (S.seen site.old).block (Dump saved.now.header saved.now.at saved.now.sector) }
-    ensures ok { OnOk result (Copies (λ body. IsSaveJournal body saved.now.header (parity_of saved.now.sector) saved.now.number) saved.now.at saved.now.header.dumplength (S.seen site.old).told (S.seen site.new).told) }
-    ensures err { OnErr result (Copies (λ body. IsBegunSave body saved.now.header (parity_of saved.now.sector) saved.now.number) saved.now.at saved.now.header.dumplength (S.seen site.old).told (S.seen site.new).told) }
+    ensures ok { OnOk result
+        (Copies (λ body. IsSaveJournal body saved.now.header (parity_of saved.now.sector) saved.now.number) saved.now.at
+        saved.now.header.dumplength (S.seen site.old).told (S.seen site.new).told) }
+    ensures err { OnErr result
+        (Copies (λ body. IsBegunSave body saved.now.header (parity_of saved.now.sector) saved.now.number) saved.now.at
+        saved.now.header.dumplength (S.seen site.old).told (S.seen site.new).told) }
     ensures frame { Frame (S.seen site.old) (S.seen site.new) }
     ensures cause { OnErr result (Rose (S.seen site.old).faults (S.seen site.new).faults) }
 {

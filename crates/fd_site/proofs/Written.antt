@@ -1,5 +1,6 @@
 -- What a write leaves of a partition.
-use Rattle.std.proofs.Common.{◌≡◌, ℕ, zero, suc, ◌+◌, ◌*◌, ◌/◌, ◌%◌, ◌≤◌, Bool, true, false, List, [], ◌∷◌, ◌++◌, length, take, drop, replicate, refl, sym, ◌∙◌, ap, arith, length-append, length-drop, take-append-drop}
+use Rattle.std.proofs.Common.{◌≡◌, ℕ, zero, suc, ◌+◌, ◌*◌, ◌/◌, ◌%◌, ◌≤◌, Bool, true, false, List, [], ◌∷◌, ◌++◌, length, take}
+use Rattle.std.proofs.Common.{drop, replicate, refl, sym, ◌∙◌, ap, arith, length-append, length-drop, take-append-drop}
 use Rattle.std.proofs.lemmas.List.{length-take-le}
 use Rattle.std.proofs.lemmas.Slice.{take-put_mid_below, drop-put_mid, between-put_mid}
 use Rattle.std.specs.List.{between, concat}
@@ -39,10 +40,19 @@ pub length-written : (part : List ℕ) (at : ℕ) (bytes : List ℕ) (kept : Lis
 length-written part at bytes kept whole le =
     let m = merged kept bytes (drop at part) in
     let same : length m ≡ length bytes = length-merged kept bytes (drop at part) whole (omega (arith, length-drop at part)) in
-    omega (arith, same, length-append (take at part) (m ++ drop (length bytes) (drop at part)), length-append m (drop (length bytes) (drop at part)), length-take-le at part (omega arith), length-drop (length bytes) (drop at part), length-drop at part)
+    omega (
+      arith,
+      same,
+      length-append (take at part) (m ++ drop (length bytes) (drop at part)),
+      length-append m (drop (length bytes) (drop at part)),
+      length-take-le at part (omega arith),
+      length-drop (length bytes) (drop at part),
+      length-drop at part,
+    )
 
 -- what lies behind a write stays
-pub drop-written : (part : List ℕ) (at : ℕ) (bytes : List ℕ) (kept : List Bool) (n : ℕ) → length bytes % 512 ≡ 0 → at + length bytes ≤ n → at + length bytes ≤ length part → drop n (written part at bytes kept) ≡ drop n part
+pub drop-written : (part : List ℕ) (at : ℕ) (bytes : List ℕ) (kept : List Bool) (n : ℕ) → length bytes % 512 ≡ 0 →
+    at + length bytes ≤ n → at + length bytes ≤ length part → drop n (written part at bytes kept) ≡ drop n part
 drop-written part at bytes kept n whole le inside =
     drop-put_mid at (length bytes) part (merged kept bytes (drop at part)) n le (omega arith) (length-merged kept bytes (drop at part) whole (omega (arith, length-drop at part)))
 

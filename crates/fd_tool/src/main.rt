@@ -73,7 +73,9 @@ fn work<S: Site, L: Link, P: Ports, O: Sink>(
     out: &mut O,
 ) -> u8
     requires { (S.seen site.old).block ≡ invocation.now.block }
-    ensures { Call (row_of (command_of invocation.now.words.items)) (outside (S.seen site.old) (L.seen link.old) (P.seen ports.old) (O.seen out.old)) (outside (S.seen site.new) (L.seen link.new) (P.seen ports.new) (O.seen out.new)) result }
+    ensures { Call (row_of (command_of invocation.now.words.items))
+        (outside (S.seen site.old) (L.seen link.old) (P.seen ports.old) (O.seen out.old))
+        (outside (S.seen site.new) (L.seen link.new) (P.seen ports.new) (O.seen out.new)) result }
 {
     crashway(alloc, &invocation.words, site, link, ports, out)
 }

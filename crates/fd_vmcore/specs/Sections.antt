@@ -1,5 +1,6 @@
 -- What opening a vmcore answers: its header, the pages that have a bit, and the bits, or the first reason to refuse it.
-use Rattle.std.specs.Prelude.{◌≡◌, ℕ, ◌+◌, ◌*◌, Bool, false, ◌==◌, ◌≤◌, nat_lt, if◌then◌else◌, List, length, take, slice_get, slice_range, unwrap_or, Option, Some, None, IsSomeAnd, Result, Ok, Err, IsOkAnd}
+use Rattle.std.specs.Prelude.{◌≡◌, ℕ, ◌+◌, ◌*◌, Bool, false, ◌==◌, ◌≤◌, nat_lt, if◌then◌else◌, List, length, take}
+use Rattle.std.specs.Prelude.{slice_get, slice_range, unwrap_or, Option, Some, None, IsSomeAnd, Result, Ok, Err, IsOkAnd}
 use Rattle.std.specs.Option.{option_and_then}
 use Rattle.fd_mini.specs.Places.{places_of}
 use Rattle.fd_mini.specs.Read.{header_in}

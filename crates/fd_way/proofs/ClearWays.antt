@@ -69,7 +69,8 @@ module _ (reading : ReadingLaw) (saving : SavedLaw) (d : Drill) (found : Seen) (
       let size : ℕ = found.size in
       let there = saving (then_adds c s.dump) s.body s.saved.header (parity_of s.saved.sector) s.saved.number size found.block s.saved.sector core.saving core.is_save in
       let entries : (c.journal ++ s.dump) ++ (core.saving ++ clearing size found.block s.saved.sector) ≡ c.journal ++ added =
-      append_assoc c.journal s.dump (core.saving ++ clearing size found.block s.saved.sector) ∙ ap (λ (l : List Entry). c.journal ++ l) (ap (λ (l : List Entry). s.dump ++ l) (sym core.is) ∙ sym s.is) in
+      append_assoc c.journal s.dump (core.saving ++ clearing size found.block s.saved.sector)
+      ∙ ap (λ (l : List Entry). c.journal ++ l) (ap (λ (l : List Entry). s.dump ++ l) (sym core.is) ∙ sym s.is) in
       subst (λ (x : Contents). info.IsSaved x number (minidump_of d.image) (header_of d.image found.block) device_name (parity_of (dump_header (header_of d.image found.block))))
       (λ i. record c { journal = entries i })
       (subst (λ n. info.IsSaved (then_adds (then_adds c s.dump) (core.saving ++ clearing size found.block s.saved.sector)) n (minidump_of d.image) (header_of d.image found.block) device_name

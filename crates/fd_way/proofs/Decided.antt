@@ -33,7 +33,8 @@ use Rattle.fd_judge.proofs.Calls.{each_cut_of_nothing}
 use Rattle.fd_judge.proofs.CutLaw.{this_after}
 use Rattle.fd_way.specs.Laws.{IsDecided, sectors_needed}
 use Rattle.fd_way.proofs.FirstSectors.{whole_stopped}
-use Rattle.fd_way.proofs.LastSectors.{AllWrites, AllWrites-append, AllWrites-begun, Apart, Apart-append, Apart-take, Apart-whole, after_writes, first_there, last_at, last_at-apart, last_at-append, length-writes, whole_write}
+use Rattle.fd_way.proofs.LastSectors.{AllWrites, AllWrites-append, AllWrites-begun, Apart, Apart-append, Apart-take, Apart-whole}
+use Rattle.fd_way.proofs.LastSectors.{after_writes, first_there, last_at, last_at-apart, last_at-append, length-writes, whole_write}
 use Rattle.fd_way.proofs.OverClear.{begun_or_this, header_for}
 
 -- a good partition has whole sectors
@@ -154,8 +155,13 @@ module _ (part : List ℕ) (m : MachineImage) (block : ℕ) (valid : IsValid m) 
         subst (AllWrites (length part)) (sym dump.is)
         (AllWrites-append (length part) (writes_from place dump.pieces) (whole_part lead header_bytes ∷ whole_part end header_bytes ∷ [])
         (pieces_are_writes (length part) place dump.pieces (omega (arith, sectors, bounds.sectors, header.pages, room)) dump.sectors (omega (arith, ap length dump.joined, room))) (
-          whole_write (length part) lead header_bytes (omega (arith, sectors, bounds.sectors, header.pages, room)) (omega (arith, length-header_bytes, bounds.sectors)) (omega (arith, length-header_bytes, room)),
-          (whole_write (length part) end header_bytes (omega (arith, sectors, bounds.sectors, room)) (omega (arith, length-header_bytes, bounds.sectors)) (omega (arith, length-header_bytes, room)), tt),
+          whole_write (length part) lead header_bytes (omega (arith, sectors, bounds.sectors, header.pages, room))
+              (omega (arith, length-header_bytes, bounds.sectors)) (omega (arith, length-header_bytes, room)),
+          (
+            whole_write (length part) end header_bytes (omega (arith, sectors, bounds.sectors, room))
+                (omega (arith, length-header_bytes, bounds.sectors)) (omega (arith, length-header_bytes, room)),
+            tt,
+          ),
         ))
 
     all_journal : AllWrites (length part) journal

@@ -3,7 +3,8 @@
 -- Piece by piece of the kernel window: the directory translates the piece's address as the image's tables do, and the last
 -- entry allows what the leaf there allows (`Translated`); the page stands where the set bits below say (`Located`). Bit by bit:
 -- the bits of the file are those of the image, with clear ones behind them.
-use Rattle.std.proofs.Common.{◌≡◌, ℕ, ◌+◌, ◌-◌, ◌*◌, ◌/◌, ◌%◌, ◌^◌, ◌<◌, ◌≤◌, min, Bool, true, false, if◌then◌else◌, not, List, ◌++◌, filter, length, take, get_or, Option, Some, None, Result, Ok, Err, refl, sym, ◌∙◌, ap, arith, append-nil}
+use Rattle.std.proofs.Common.{◌≡◌, ℕ, ◌+◌, ◌-◌, ◌*◌, ◌/◌, ◌%◌, ◌^◌, ◌<◌, ◌≤◌, min, Bool, true, false, if◌then◌else◌, not, List, ◌++◌}
+use Rattle.std.proofs.Common.{filter, length, take, get_or, Option, Some, None, Result, Ok, Err, refl, sym, ◌∙◌, ap, arith, append-nil}
 use Rattle.std.specs.Int.{div_ceil}
 use Rattle.std.specs.List.{filter_map, range_with_len}
 use Rattle.std.specs.Option.{option_and_then, option_map}

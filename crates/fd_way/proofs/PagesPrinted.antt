@@ -1,5 +1,6 @@
 -- What a printer printed of the pages that it was given, and of which walk they are.
-use Rattle.std.proofs.Common.{◌≡◌, ℕ, ◌+◌, ◌^◌, ◌<◌, ◌≤◌, Bool, true, false, min, List, [], ◌∷◌, ◌++◌, length, take, Option, Some, None, Result, Ok, Err, IsErr, OnErr, refl, sym, ap, subst, ◌∙◌, arith, append_assoc, append-nil, inl, inr}
+use Rattle.std.proofs.Common.{◌≡◌, ℕ, ◌+◌, ◌^◌, ◌<◌, ◌≤◌, Bool, true, false, min, List, [], ◌∷◌, ◌++◌, length, take, Option, Some, None}
+use Rattle.std.proofs.Common.{Result, Ok, Err, IsErr, OnErr, refl, sym, ap, subst, ◌∙◌, arith, append_assoc, append-nil, inl, inr}
 use Rattle.std.specs.List.{flat_map}
 use Rattle.std.proofs.Math.Seq.{take-append-add, take-length}
 use Rattle.std.proofs.lemmas.Bool.{cases_lt}
@@ -93,7 +94,9 @@ first_bytes first all size is =
     let text : pages_text all ≡ lines first ++ (lines is.0 ++ count_line (length all)) =
     ap (λ l. l ++ count_line (length all)) (ap lines (sym is.1) ∙ flat_map-append page_line first is.0) ∙ append_assoc (lines first) (lines is.0) (count_line (length all)) in (
       min size (length (lines first)),
-      take_min size (lines first) ∙ sym (take-append-le (min size (length (lines first))) (lines first) (lines is.0 ++ count_line (length all)) (omega arith)) ∙ ap (take (min size (length (lines first)))) (sym text),
+      take_min size (lines first)
+          ∙ sym (take-append-le (min size (length (lines first))) (lines first) (lines is.0 ++ count_line (length all))
+          (omega arith)) ∙ ap (take (min size (length (lines first)))) (sym text),
     )
 
 some_same : {A : Type 0} (x y : A) → Some x ≡ Some y → x ≡ y
@@ -103,7 +106,8 @@ file_same : (c d : Contents) (name : List ℕ) → Some c ≡ Some d → file_of
 file_same c d name same = ap (λ e. file_of e name) (some_same c d same)
 
 chosen_file :
-    (c : Contents) (file : Option (List ℕ)) (name : List ℕ) (s : Sections) (pages : List Page) → file_of c name ≡ file → Told (Some c) (λ d. (f : List ℕ) → file_of d name ≡ Some f → AreFirst pages (walk_of f s))
+    (c : Contents) (file : Option (List ℕ)) (name : List ℕ) (s : Sections) (pages : List Page) → file_of c name ≡ file →
+    Told (Some c) (λ d. (f : List ℕ) → file_of d name ≡ Some f → AreFirst pages (walk_of f s))
     → (walk : List Page) × ((Told (Some c) (λ d. (f : List ℕ) → file_of d name ≡ Some f → walk ≡ walk_of f s)) × AreFirst pages walk)
 chosen_file c None name s pages is first = (pages, ((λ d same f there. absurd (let e = file_same c d name same in let n : None ≡ Some f = sym is ∙ e ∙ there in cc)), ([], append-nil pages)))
 chosen_file c (Some g) name s pages is first =
@@ -134,12 +138,15 @@ all_at all pages true (Ok other) done is on are = are
 all_at all pages true (Err fault) done is on are = absurd (cc)
 all_at all pages false result done is on are = absurd (cc)
 
-failed_printed : (pages : List Page) (old new : Option (List ℕ)) (answer : Result ℕ PagesFault) → IsErr answer → (size : ℕ) × (new ≡ grown old (take size (pages_text pages))) → IsPagesPrinted pages old new answer
+failed_printed : (pages : List Page) (old new : Option (List ℕ)) (answer : Result ℕ PagesFault) → IsErr answer →
+    (size : ℕ) × (new ≡ grown old (take size (pages_text pages))) → IsPagesPrinted pages old new answer
 failed_printed pages old new (Ok count) failed part = absurd (cc)
 failed_printed pages old new (Err fault) failed part = part
 
 -- the last line behind the others, or some of it
-pub last_line : (told between : Option (List ℕ)) (pages : List Page) (count : ℕ) (line : List ℕ) → between ≡ grown told (lines pages) → count ≡ length pages → line ≡ count_line count → grown between line ≡ grown told (pages_text pages)
+pub last_line : (told between : Option (List ℕ)) (pages : List Page) (count : ℕ) (line : List ℕ) →
+    between ≡ grown told (lines pages) → count ≡ length pages → line ≡ count_line count →
+    grown between line ≡ grown told (pages_text pages)
 unfolding pages_text
 last_line told between pages count line is number text =
     ap (λ o. grown o line) is ∙ grown-append told (lines pages) line ∙ ap (λ l. grown told (lines pages ++ l)) (text ∙ ap count_line number)

@@ -4,7 +4,8 @@ ghost use Rattle.std.specs.Prelude.{◌≡◌, IfOk, map};
 ghost use Rattle.std.specs.Option.{option_map};
 ghost use Rattle.fd_bytes.specs.Number.{number_of};
 ghost use Rattle.fd_words.specs.Address.{address_of};
-ghost use Rattle.fd_words.specs.Command.{command_of_four, command_of_one, command_of_three, command_of_two, command_of_values, drill_of, dump_of, HasGoodNames, image_of, netdump_of, netdumpd_of, pages_of, read_of};
+ghost use Rattle.fd_words.specs.Command.{command_of_four, command_of_one, command_of_three, command_of_two, command_of_values};
+ghost use Rattle.fd_words.specs.Command.{drill_of, dump_of, HasGoodNames, image_of, netdump_of, netdumpd_of, pages_of, read_of};
 ghost use Rattle.fd_words.specs.Source.{arch_of, source_of};
 
 use crate::address::read_address;

@@ -33,7 +33,9 @@ returns c =
     let first-made : first ≡ data_segment number 0x9000_0000 (first_pages (data_pages number)) =
     data_made first number 0x9000_0000 c.first_pages-first.result (first_pages (data_pages number)) c.in_ok-segment-2.ensures.first c.in_ok-segment-2.ensures.words front in
     let second-made : second ≡ data_segment number 0xa000_0000 (data_pages number - first_pages (data_pages number)) =
-    data_made second number 0xa000_0000 (c.data_pages-pages.result - c.first_pages-first.result) (data_pages number - first_pages (data_pages number)) c.in_ok-segment-3.ensures.first c.in_ok-segment-3.ensures.words (λ i. all i - front i) in
+    data_made second number 0xa000_0000 (c.data_pages-pages.result - c.first_pages-first.result)
+    (data_pages number - first_pages (data_pages number)) c.in_ok-segment-3.ensures.first c.in_ok-segment-3.ensures.words
+    (λ i. all i - front i) in
     let pushed = c.in_ok-push.ensures.items ∙ ap (λ l. l ++ tables ∷ []) c.in_ok-segs.ensures.items in
     let pushed-2 = c.in_ok-push-2.ensures.items ∙ ap (λ l. l ++ first ∷ []) pushed in
     c.in_ok-push-3.ensures.items ∙ (ap (λ l. l ++ second ∷ []) pushed-2 ∙ (λ i. tables-made i ∷ first-made i ∷ second-made i ∷ []))

@@ -19,7 +19,9 @@ returns-in_err-write_file-clause-begun g c =
     let done : ℕ = c.loop-done.done in
     let bytes : List ℕ = c.args.bytes.now in
     let place = length-take-le done bytes i.within in
-    on_err c.from_residual.result (subst (λ (l : List ℕ). BeginsOn c.args.name.now c.args.at l (g.S.Site.seen c.args.site.now).told (g.S.Site.seen c.write_file.new.self).told) (take-append-drop done bytes)
+    on_err c.from_residual.result
+    (subst (λ (l : List ℕ). BeginsOn c.args.name.now c.args.at l (g.S.Site.seen c.args.site.now).told
+    (g.S.Site.seen c.write_file.new.self).told) (take-append-drop done bytes)
     (begins_then c.args.name.now c.args.at (c.args.at + done) (take done bytes) (drop done bytes) _ _ _ (omega (arith, place)) i.written
     (begins_piece c.args.name.now (c.args.at + done) (drop done bytes) _ _ c.in_err-write_file.ensures.err)))
 

@@ -128,7 +128,8 @@ returns-clause-len g c =
     let parts = in_parts m.texts c.as_slice.result.now c.as_slice-2.result.now c.as_slice-3.result.now c.as_slice-4.result.now (c.as_slice.ensures ∙ ap (λ x. x.host) t)
     (c.as_slice-2.ensures ∙ ap (λ x. x.version) t) (c.as_slice-3.ensures ∙ ap (λ x. x.panic) t) (c.as_slice-4.ensures ∙ ap (λ x. x.msgbuf) t) in
     let memory = ap (flat_map (λ (seg : Seg). seg.bytes)) c.segs.ensures.value ∙ memory_is m.segs in
-    if_ok (λ len. len ≡ c.in_ok-memory_at.memory_at + length (flat_map (λ (seg : Seg). seg.bytes) c.segs.result.now)) (λ len. len ≡ length (spelling_of m)) c.write_segments.result c.write_segments.ensures.end
+    if_ok (λ len. len ≡ c.in_ok-memory_at.memory_at + length (flat_map (λ (seg : Seg). seg.bytes) c.segs.result.now))
+    (λ len. len ≡ length (spelling_of m)) c.write_segments.result c.write_segments.ensures.end
     (λ len is. omega (
       arith,
       is,

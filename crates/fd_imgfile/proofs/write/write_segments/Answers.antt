@@ -20,7 +20,12 @@ write_bytes-requires-clause-fits g c =
     let segs : List Seg = c.args.segs.now in
     let seg : Seg = c.seg-item.result in
     let all : c.view.result.now ≡ seg.bytes = c.view.ensures ∙ slice-all seg.bytes (0 + c.len.result) (omega (arith, c.len.ensures.value)) in
-    omega (arith, ap length all, item_fits c.args.name.now bytes_of segs c.loop-seg.seg-index seg c.args.at c.loop-seg.next c.loop-seg-test.true c.seg-item.is c.loop-seg.invariant.next c.requires.fits)
+    omega (
+      arith,
+      ap length all,
+      item_fits c.args.name.now bytes_of segs c.loop-seg.seg-index seg c.args.at c.loop-seg.next c.loop-seg-test.true
+          c.seg-item.is c.loop-seg.invariant.next c.requires.fits,
+    )
 
 pub returns-in_err-next-clause-begun : goal.returns-in_err-next-clause-begun
 returns-in_err-next-clause-begun g c =

@@ -41,7 +41,8 @@ pub write_parts-requires-clause-fits : goal.write_parts-requires-clause-fits
 write_parts-requires-clause-fits g c =
     let m : MachineImage = c.args.image.now in
     let parts = in_parts m c.filled.result.now c.filled-2.result.now c.filled-3.result.now (c.filled.ensures ∙ c.spelled-front.ensures ∙ ap fields_of c.front_in.ensures)
-    (c.filled-2.ensures ∙ c.segs_page-segs.ensures ∙ ap (flat_map seg_bytes) c.segs.ensures.value) (c.filled-3.ensures ∙ c.avail_page-avail.ensures ∙ ap (flat_map avail_bytes) c.avail.ensures.value) in
+    (c.filled-2.ensures ∙ c.segs_page-segs.ensures ∙ ap (flat_map seg_bytes) c.segs.ensures.value)
+    (c.filled-3.ensures ∙ c.avail_page-avail.ensures ∙ ap (flat_map avail_bytes) c.avail.ensures.value) in
     omega (arith, ap length parts, length-before_wanted m, c.is_within_limits.ensures.fields.segs, c.is_within_limits.ensures.fields.avail)
 
 pub returns-in_err-wanted_at-clause-begun : goal.returns-in_err-wanted_at-clause-begun
@@ -51,7 +52,8 @@ returns-in_err-wanted_at-clause-begun g c =
     let old = (g.S.Site.seen c.args.site.now).told in
     let new = (g.S.Site.seen c.write_parts.new.site).told in
     let parts = in_parts m c.filled.result.now c.filled-2.result.now c.filled-3.result.now (c.filled.ensures ∙ c.spelled-front.ensures ∙ ap fields_of c.front_in.ensures)
-    (c.filled-2.ensures ∙ c.segs_page-segs.ensures ∙ ap (flat_map seg_bytes) c.segs.ensures.value) (c.filled-3.ensures ∙ c.avail_page-avail.ensures ∙ ap (flat_map avail_bytes) c.avail.ensures.value) in
+    (c.filled-2.ensures ∙ c.segs_page-segs.ensures ∙ ap (flat_map seg_bytes) c.segs.ensures.value)
+    (c.filled-3.ensures ∙ c.avail_page-avail.ensures ∙ ap (flat_map avail_bytes) c.avail.ensures.value) in
     on_err c.from_residual.result (subst (λ (l : List ℕ). BeginsOn name 0 l old new) (joined m)
     (begins_first name 0 (before_wanted m) (flat_map u64 m.wanted) old new
     (subst (λ (l : List ℕ). BeginsOn name 0 l old new) parts c.in_err-wanted_at.ensures.begun)))
@@ -64,7 +66,8 @@ pub write_wanted-requires-clause-fits : goal.write_wanted-requires-clause-fits
 write_wanted-requires-clause-fits g c =
     let m : MachineImage = c.args.image.now in
     let parts = in_parts m c.filled.result.now c.filled-2.result.now c.filled-3.result.now (c.filled.ensures ∙ c.spelled-front.ensures ∙ ap fields_of c.front_in.ensures)
-    (c.filled-2.ensures ∙ c.segs_page-segs.ensures ∙ ap (flat_map seg_bytes) c.segs.ensures.value) (c.filled-3.ensures ∙ c.avail_page-avail.ensures ∙ ap (flat_map avail_bytes) c.avail.ensures.value) in
+    (c.filled-2.ensures ∙ c.segs_page-segs.ensures ∙ ap (flat_map seg_bytes) c.segs.ensures.value)
+    (c.filled-3.ensures ∙ c.avail_page-avail.ensures ∙ ap (flat_map avail_bytes) c.avail.ensures.value) in
     let limits = c.is_within_limits.ensures.fields in
     omega (arith, ap length parts, length-before_wanted m, limits.segs, limits.avail, limits.wanted, c.in_ok-wanted_at.ensures.end, ap length c.wanted.ensures.value)
 
@@ -72,7 +75,8 @@ pub returns-clause-end : goal.returns-clause-end
 returns-clause-end g c =
     let m : MachineImage = c.args.image.now in
     let parts = in_parts m c.filled.result.now c.filled-2.result.now c.filled-3.result.now (c.filled.ensures ∙ c.spelled-front.ensures ∙ ap fields_of c.front_in.ensures)
-    (c.filled-2.ensures ∙ c.segs_page-segs.ensures ∙ ap (flat_map seg_bytes) c.segs.ensures.value) (c.filled-3.ensures ∙ c.avail_page-avail.ensures ∙ ap (flat_map avail_bytes) c.avail.ensures.value) in
+    (c.filled-2.ensures ∙ c.segs_page-segs.ensures ∙ ap (flat_map seg_bytes) c.segs.ensures.value)
+    (c.filled-3.ensures ∙ c.avail_page-avail.ensures ∙ ap (flat_map avail_bytes) c.avail.ensures.value) in
     let whole : length (front_of m ++ tables_of m) ≡ length (before_wanted m) + 8 * length m.wanted =
     sym (ap length (joined m)) ∙ (length-append (before_wanted m) (flat_map u64 m.wanted) ∙ ap (λ n. length (before_wanted m) + n) (eights m.wanted)) in
     if_ok (λ end. end ≡ c.in_ok-wanted_at.wanted_at + 8 * length c.wanted.result.now) (λ end. end ≡ length (front_of m ++ tables_of m)) c.write_wanted.result c.write_wanted.ensures.end
@@ -86,7 +90,8 @@ returns-clause-whole g c =
     let mid = (g.S.Site.seen c.write_parts.new.site).told in
     let new = (g.S.Site.seen c.write_wanted.new.site).told in
     let parts = in_parts m c.filled.result.now c.filled-2.result.now c.filled-3.result.now (c.filled.ensures ∙ c.spelled-front.ensures ∙ ap fields_of c.front_in.ensures)
-    (c.filled-2.ensures ∙ c.segs_page-segs.ensures ∙ ap (flat_map seg_bytes) c.segs.ensures.value) (c.filled-3.ensures ∙ c.avail_page-avail.ensures ∙ ap (flat_map avail_bytes) c.avail.ensures.value) in
+    (c.filled-2.ensures ∙ c.segs_page-segs.ensures ∙ ap (flat_map seg_bytes) c.segs.ensures.value)
+    (c.filled-3.ensures ∙ c.avail_page-avail.ensures ∙ ap (flat_map avail_bytes) c.avail.ensures.value) in
     when_ok c.write_wanted.result c.write_wanted.ensures.whole
     (λ wrote. subst (λ (l : List ℕ). WritesOn name 0 l old new) (joined m)
     (writes_then name 0 c.in_ok-wanted_at.wanted_at (before_wanted m) (flat_map u64 m.wanted) old mid new (omega (arith, ap length parts, c.in_ok-wanted_at.ensures.end))
@@ -101,7 +106,8 @@ returns-clause-begun g c =
     let mid = (g.S.Site.seen c.write_parts.new.site).told in
     let new = (g.S.Site.seen c.write_wanted.new.site).told in
     let parts = in_parts m c.filled.result.now c.filled-2.result.now c.filled-3.result.now (c.filled.ensures ∙ c.spelled-front.ensures ∙ ap fields_of c.front_in.ensures)
-    (c.filled-2.ensures ∙ c.segs_page-segs.ensures ∙ ap (flat_map seg_bytes) c.segs.ensures.value) (c.filled-3.ensures ∙ c.avail_page-avail.ensures ∙ ap (flat_map avail_bytes) c.avail.ensures.value) in
+    (c.filled-2.ensures ∙ c.segs_page-segs.ensures ∙ ap (flat_map seg_bytes) c.segs.ensures.value)
+    (c.filled-3.ensures ∙ c.avail_page-avail.ensures ∙ ap (flat_map avail_bytes) c.avail.ensures.value) in
     when_err c.write_wanted.result c.write_wanted.ensures.begun
     (λ begun. subst (λ (l : List ℕ). BeginsOn name 0 l old new) (joined m)
     (begins_then name 0 c.in_ok-wanted_at.wanted_at (before_wanted m) (flat_map u64 m.wanted) old mid new (omega (arith, ap length parts, c.in_ok-wanted_at.ensures.end))

@@ -43,7 +43,9 @@ returns-in_err-send_next-in-Send-clause-sends g c =
 
 pub returns-in_err-hear-in-Poll-clause-sends : goal.returns-in_err-hear-in-Poll-clause-sends
 returns-in_err-hear-in-Poll-clause-sends g c =
-    is_broken _ _ _ c.requires.patient.some _ _ _ _ _ c.loop-number.invariant.way c.in-Poll.ensures tt c.in_err-hear-in-Poll.ensures.err c.from_residual-in_err-hear-in-Poll.result c.from_residual-in_err-hear-in-Poll.ensures.1
+    is_broken _ _ _ c.requires.patient.some _ _ _ _ _ c.loop-number.invariant.way c.in-Poll.ensures tt
+    c.in_err-hear-in-Poll.ensures.err c.from_residual-in_err-hear-in-Poll.result
+    c.from_residual-in_err-hear-in-Poll.ensures.1
 
 pub returns-in-Done-clause-sends : goal.returns-in-Done-clause-sends
 returns-in-Done-clause-sends g c =

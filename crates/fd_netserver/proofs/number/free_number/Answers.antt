@@ -8,7 +8,9 @@ loop-number-init g c = record { untouched = record { told = refl; size = refl; b
 
 pub returns-then-branch-clause-number : goal.returns-then-branch-clause-number
 returns-then-branch-clause-number g c = λ d is.
-    sym (c.loop-number.invariant.number d is ∙ left-found (file_of d) c.loop-number.number c.loop-number-test.true (sym (c.in_ok-is_free.ensures.free d (c.loop-number.invariant.untouched.told ∙ is)) ∙ c.if-branch.true))
+    sym (c.loop-number.invariant.number d is
+    ∙ left-found (file_of d) c.loop-number.number c.loop-number-test.true
+    (sym (c.in_ok-is_free.ensures.free d (c.loop-number.invariant.untouched.told ∙ is)) ∙ c.if-branch.true))
 
 pub loop-number-preserved : goal.loop-number-preserved
 loop-number-preserved g c =
@@ -16,7 +18,9 @@ loop-number-preserved g c =
     let now = c.in_ok-is_free.ensures.untouched in
     record {
       untouched = record { told = now.told ∙ was.told; size = now.size ∙ was.size; block = now.block ∙ was.block; count = omega (arith, now.count, was.count) };
-      number = λ d is. c.loop-number.invariant.number d is ∙ left-next (file_of d) c.loop-number.number c.loop-number-test.true (sym (c.in_ok-is_free.ensures.free d (was.told ∙ is)) ∙ c.if-branch.false);
+      number = λ d is. c.loop-number.invariant.number d is
+          ∙ left-next (file_of d) c.loop-number.number c.loop-number-test.true
+          (sym (c.in_ok-is_free.ensures.free d (was.told ∙ is)) ∙ c.if-branch.false);
     }
 
 pub returns-clause-number : goal.returns-clause-number

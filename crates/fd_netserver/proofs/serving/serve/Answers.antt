@@ -44,7 +44,8 @@ returns-in_err-take_turn-clause-err g c =
     let i = c.loop-pace.invariant in
     let why = c.in_err-take_turn.field-0.0 in
     passed c.from_residual.result why
-    (λ e. IsServedTo (EndsBy c.args.limits e) (g.S.Site.seen c.args.site.now) (g.S.Site.seen c.take_turn.new.site) (g.P.Ports.seen c.args.ports.now).told (g.P.Ports.seen c.take_turn.new.ports).told c.take_turn.new.list.items)
+    (λ e. IsServedTo (EndsBy c.args.limits e) (g.S.Site.seen c.args.site.now) (g.S.Site.seen c.take_turn.new.site)
+    (g.P.Ports.seen c.args.ports.now).told (g.P.Ports.seen c.take_turn.new.ports).told c.take_turn.new.list.items)
     c.from_residual.ensures.1
     (ends_broken c.args.limits why _ _ _ _ i.happened _ (going_paced c.args.limits c.loop-pace.pace i.happened c.loop-pace-test.true i.paced)
     (c.in_err-take_turn.ensures.err _ _ i.happened i.served i.listed))

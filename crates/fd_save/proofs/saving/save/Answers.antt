@@ -10,7 +10,8 @@ returns-clause-saved g c = record {
   found = λ told is. sym (c.in_ok-header.ensures.verdict told is) ∙ c.in-Dump.is;
   number = λ told is. subst (IsNumberOf (file_of told) c.args.options.max) c.in-Some.is (c.in_ok-number.ensures.number told (c.in_ok-header.ensures.untouched.told ∙ is));
   files =
-      subst (λ o. Copies (λ body. IsSaveJournal body c.in-Dump.header (parity_of c.in-Dump.sector) c.in-Some.number) c.in-Dump.at c.in-Dump.header.dumplength o (g.S.Site.seen c.save_files.new.site).told)
+      subst (λ o. Copies (λ body. IsSaveJournal body c.in-Dump.header (parity_of c.in-Dump.sector) c.in-Some.number)
+      c.in-Dump.at c.in-Dump.header.dumplength o (g.S.Site.seen c.save_files.new.site).told)
       (c.in_ok-number.ensures.untouched.told ∙ c.in_ok-header.ensures.untouched.told) c.in_ok-save_files.ensures.ok;
 }
 
@@ -21,7 +22,8 @@ returns-in_err-save_files-clause-fault g c _ =
       found = λ told is. sym (c.in_ok-header.ensures.verdict told is) ∙ c.in-Dump.is;
       number = λ told is. subst (IsNumberOf (file_of told) c.args.options.max) c.in-Some.is (c.in_ok-number.ensures.number told (c.in_ok-header.ensures.untouched.told ∙ is));
       files =
-          subst (λ o. Copies (λ body. IsBegunSave body c.in-Dump.header (parity_of c.in-Dump.sector) c.in-Some.number) c.in-Dump.at c.in-Dump.header.dumplength o (g.S.Site.seen c.save_files.new.site).told)
+          subst (λ o. Copies (λ body. IsBegunSave body c.in-Dump.header (parity_of c.in-Dump.sector) c.in-Some.number)
+          c.in-Dump.at c.in-Dump.header.dumplength o (g.S.Site.seen c.save_files.new.site).told)
           (c.in_ok-number.ensures.untouched.told ∙ c.in_ok-header.ensures.untouched.told) c.in_err-save_files.ensures.err;
     })
 

@@ -30,7 +30,8 @@ returns-in_err-copy_part-clause-err g c =
     let named : c.as_str.result.now ≡ vmcore_name saved.number = c.as_str.ensures.value ∙ c.vmcore_name-vmcore.ensures.name in
     on_err c.from_residual.result
     (copies_begun_vmcore saved.header (parity_of saved.sector) saved.number saved.at saved.header.dumplength _ (g.S.Site.seen c.args.site.now).told (g.S.Site.seen c.args.site.now).told _
-    (subst (λ (l : List ℕ). Copies (IsBegunFile l) saved.at saved.header.dumplength (g.S.Site.seen c.args.site.now).told (g.S.Site.seen c.copy_part.new.site).told) named c.in_err-copy_part.ensures.err))
+    (subst (λ (l : List ℕ). Copies (IsBegunFile l) saved.at saved.header.dumplength (g.S.Site.seen c.args.site.now).told
+    (g.S.Site.seen c.copy_part.new.site).told) named c.in_err-copy_part.ensures.err))
 
 pub returns-in_err-make_file-clause-err : goal.returns-in_err-make_file-clause-err
 returns-in_err-make_file-clause-err g c =
@@ -41,7 +42,8 @@ returns-in_err-make_file-clause-err g c =
     c.as_slice.ensures.value ∙ c.print_info-text.ensures ∙ ap (λ p. info_text saved.header device_name p saved.number) c.get_u32_be-parity.ensures.value in
     on_err c.from_residual-in_err-make_file.result
     (copies_begun_info saved.header (parity_of saved.sector) saved.number saved.at saved.header.dumplength _ _ (g.S.Site.seen c.args.site.now).told _
-    (subst (λ (l : List ℕ). Copies (IsFileJournal l) saved.at saved.header.dumplength (g.S.Site.seen c.args.site.now).told (g.S.Site.seen c.copy_part.new.site).told) named c.in_ok-copy_part.ensures.ok)
+    (subst (λ (l : List ℕ). Copies (IsFileJournal l) saved.at saved.header.dumplength (g.S.Site.seen c.args.site.now).told
+    (g.S.Site.seen c.copy_part.new.site).told) named c.in_ok-copy_part.ensures.ok)
     (renamed IsBegunFile _ _ _ _ _ _ info_named text c.in_err-make_file.ensures.err))
 
 pub returns-clause-ok : goal.returns-clause-ok
@@ -53,7 +55,8 @@ returns-clause-ok g c =
     c.as_slice.ensures.value ∙ c.print_info-text.ensures ∙ ap (λ p. info_text saved.header device_name p saved.number) c.get_u32_be-parity.ensures.value in
     map_ok c.make_file-2.result
     (λ bounds. copies_saved saved.header (parity_of saved.sector) saved.number saved.at saved.header.dumplength _ _ _ _
-    (subst (λ (l : List ℕ). Copies (IsFileJournal l) saved.at saved.header.dumplength (g.S.Site.seen c.args.site.now).told (g.S.Site.seen c.copy_part.new.site).told) named c.in_ok-copy_part.ensures.ok)
+    (subst (λ (l : List ℕ). Copies (IsFileJournal l) saved.at saved.header.dumplength (g.S.Site.seen c.args.site.now).told
+    (g.S.Site.seen c.copy_part.new.site).told) named c.in_ok-copy_part.ensures.ok)
     (renamed IsFileJournal _ _ _ _ _ _ info_named text c.in_ok-make_file.ensures.ok)
     (renamed IsFileJournal _ _ _ _ _ _ (λ i. bounds_name) (c.as_slice-2.ensures.value ∙ c.print_bounds-next.ensures) bounds))
     c.make_file-2.ensures.ok
@@ -67,7 +70,8 @@ returns-clause-err g c =
     c.as_slice.ensures.value ∙ c.print_info-text.ensures ∙ ap (λ p. info_text saved.header device_name p saved.number) c.get_u32_be-parity.ensures.value in
     map_err c.make_file-2.result
     (λ bounds. copies_begun_bounds saved.header (parity_of saved.sector) saved.number saved.at saved.header.dumplength _ _ _ _
-    (subst (λ (l : List ℕ). Copies (IsFileJournal l) saved.at saved.header.dumplength (g.S.Site.seen c.args.site.now).told (g.S.Site.seen c.copy_part.new.site).told) named c.in_ok-copy_part.ensures.ok)
+    (subst (λ (l : List ℕ). Copies (IsFileJournal l) saved.at saved.header.dumplength (g.S.Site.seen c.args.site.now).told
+    (g.S.Site.seen c.copy_part.new.site).told) named c.in_ok-copy_part.ensures.ok)
     (renamed IsFileJournal _ _ _ _ _ _ info_named text c.in_ok-make_file.ensures.ok)
     (renamed IsBegunFile _ _ _ _ _ _ (λ i. bounds_name) (c.as_slice-2.ensures.value ∙ c.print_bounds-next.ensures) bounds))
     c.make_file-2.ensures.err

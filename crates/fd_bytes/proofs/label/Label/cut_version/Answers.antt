@@ -27,7 +27,8 @@ cut : (g : Over) (c : goal.After-push g) → c.push.new.self.items ≡ take (g.r
 cut g c =
     let text : c.text_in-text.result.now ≡ take g.row.N (text_of c.args.bytes.now) = text_in_front g.row.N c.args.bytes.now _ _ c.text_in-text.ensures c.min.ensures in
     let front : c.try_extend_from_slice-cut.new.self.items ≡ take (g.row.N - 2) c.text_in-text.result.now =
-    taken c.try_extend_from_slice-cut.result _ _ (take (g.row.N - 2) c.text_in-text.result.now) g.row.N c.try_extend_from_slice-cut.ensures.variant c.try_extend_from_slice-cut.ensures.ok c.new-label.ensures
+    taken c.try_extend_from_slice-cut.result _ _ (take (g.row.N - 2) c.text_in-text.result.now) g.row.N
+    c.try_extend_from_slice-cut.ensures.variant c.try_extend_from_slice-cut.ensures.ok c.new-label.ensures
     (omega (arith, length-take {A = ℕ})) in
     c.push.ensures.items
     ∙ ap (λ (l : List ℕ). l ++ 10 ∷ []) (front ∙ ap (λ (l : List ℕ). take (g.row.N - 2) l) text ∙ take-take (g.row.N - 2) g.row.N (text_of c.args.bytes.now) (omega arith))

@@ -31,7 +31,9 @@ loop-bit-preserved g c =
         | in_default w ↦ rw w.visit-is (taken_pass g.V.Visit.took h c.loop-bit.bit c.args.visit.now c.loop-bit.visit (sym w.in_default.ensures) c.loop-bit.invariant.taken)
       ];
       number = elim c.if-has.branch [
-        | then-has w ↦ w.number-is ∙ ap (λ n. n + 1) c.loop-bit.invariant.number ∙ sym (count_yes s.bits c.map-map.result.now c.loop-bit.bit c.has.result c.map-map.ensures.bits c.has.ensures w.if-has.true within)
+        | then-has w ↦ w.number-is ∙ ap (λ n. n + 1) c.loop-bit.invariant.number
+            ∙ sym (count_yes s.bits c.map-map.result.now c.loop-bit.bit c.has.result c.map-map.ensures.bits c.has.ensures
+            w.if-has.true within)
         | else-has w ↦ w.number-is ∙ c.loop-bit.invariant.number ∙ sym (count_no s.bits c.map-map.result.now c.loop-bit.bit c.has.result c.map-map.ensures.bits c.has.ensures w.if-has.false within)
       ];
       few = elim c.if-has.branch [ then-has w ↦ omega (arith, c.loop-bit.invariant.few) | else-has w ↦ omega (arith, c.loop-bit.invariant.few) ];

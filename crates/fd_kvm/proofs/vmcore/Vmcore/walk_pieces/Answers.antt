@@ -34,5 +34,6 @@ loop-piece-preserved g c =
           c.args.visit.now c.loop-piece.visit w.visit.new.self c.args.walked.now c.loop-piece.walked w.mark.new.walked (c.loop-piece.piece + 1 - c.args.first) w.in-Some.page (omega arith)
           (sym w.in-Some.ensures.page) c.loop-piece.invariant w.if-not-visit.ensures w.mark.ensures)
       | in_default-page_by_kind w ↦ rw (w.walked-is, w.visit-is) (part_pass g.V.Visit.took s h c.args.first (c.loop-piece.piece - c.args.first) c.loop-piece.piece (omega arith)
-          c.args.visit.now c.loop-piece.visit c.args.walked.now c.loop-piece.walked (c.loop-piece.piece + 1 - c.args.first) (omega arith) (sym w.in_default-page_by_kind.ensures.page) c.loop-piece.invariant)
+          c.args.visit.now c.loop-piece.visit c.args.walked.now c.loop-piece.walked (c.loop-piece.piece + 1 - c.args.first)
+          (omega arith) (sym w.in_default-page_by_kind.ensures.page) c.loop-piece.invariant)
     ]

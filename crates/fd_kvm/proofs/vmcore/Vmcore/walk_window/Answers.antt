@@ -23,7 +23,11 @@ entries_are s h unit pieces count same is_unit are is =
 pub walk_entry-requires-clause-inside : goal.walk_entry-requires-clause-inside
 walk_entry-requires-clause-inside g c =
     let s = c.args.self.now.sections in
-    first_inside s.header c.loop-index.index (subst (λ n. c.loop-index.index < n) (entries_are s c.header-header.result.now c.unit_of.result c.piece_count.result c.div_ceil-entries.result c.header-header.ensures c.unit_of.ensures.value c.piece_count.ensures.count c.div_ceil-entries.ensures) c.loop-index-test.true)
+    first_inside s.header c.loop-index.index
+    (subst (λ n. c.loop-index.index < n)
+    (entries_are s c.header-header.result.now c.unit_of.result c.piece_count.result c.div_ceil-entries.result
+    c.header-header.ensures c.unit_of.ensures.value c.piece_count.ensures.count c.div_ceil-entries.ensures)
+    c.loop-index-test.true)
 
 pub loop-index-init : goal.loop-index-init
 loop-index-init g c = record {
@@ -51,7 +55,11 @@ returns-in_err-walk_entry-clause-part g c =
     let front = c.loop-index.invariant.part in
     let next = c.in_err-walk_entry.ensures.part in
     let inside : entry_pieces s * c.loop-index.index < piece_count s.header =
-    first_inside s.header c.loop-index.index (subst (λ n. c.loop-index.index < n) (entries_are s c.header-header.result.now c.unit_of.result c.piece_count.result c.div_ceil-entries.result c.header-header.ensures c.unit_of.ensures.value c.piece_count.ensures.count c.div_ceil-entries.ensures) c.loop-index-test.true) in
+    first_inside s.header c.loop-index.index
+    (subst (λ n. c.loop-index.index < n)
+    (entries_are s c.header-header.result.now c.unit_of.result c.piece_count.result c.div_ceil-entries.result
+    c.header-header.ensures c.unit_of.ensures.value c.piece_count.ensures.count c.div_ceil-entries.ensures)
+    c.loop-index-test.true) in
     let few = few_more (entry_pieces s) (piece_count s.header) c.loop-index.index (length front.pages) (length next.pages) inside front.are.0 next.are.0 in
     record {
       pages = front.pages ++ next.pages;
@@ -72,7 +80,11 @@ returns-then-not-branch-clause-part g c =
     let front = c.loop-index.invariant.part in
     let next = c.in_ok-walk_entry.ensures.part in
     let inside : entry_pieces s * c.loop-index.index < piece_count s.header =
-    first_inside s.header c.loop-index.index (subst (λ n. c.loop-index.index < n) (entries_are s c.header-header.result.now c.unit_of.result c.piece_count.result c.div_ceil-entries.result c.header-header.ensures c.unit_of.ensures.value c.piece_count.ensures.count c.div_ceil-entries.ensures) c.loop-index-test.true) in
+    first_inside s.header c.loop-index.index
+    (subst (λ n. c.loop-index.index < n)
+    (entries_are s c.header-header.result.now c.unit_of.result c.piece_count.result c.div_ceil-entries.result
+    c.header-header.ensures c.unit_of.ensures.value c.piece_count.ensures.count c.div_ceil-entries.ensures)
+    c.loop-index-test.true) in
     let few = few_more (entry_pieces s) (piece_count s.header) c.loop-index.index (length front.pages) (length next.pages) inside front.are.0 next.are.0 in
     let ended = c.if-not-branch.true in
     record {
@@ -93,7 +105,11 @@ loop-index-preserved g c =
     let front = c.loop-index.invariant.part in
     let next = c.in_ok-walk_entry.ensures.part in
     let inside : entry_pieces s * c.loop-index.index < piece_count s.header =
-    first_inside s.header c.loop-index.index (subst (λ n. c.loop-index.index < n) (entries_are s c.header-header.result.now c.unit_of.result c.piece_count.result c.div_ceil-entries.result c.header-header.ensures c.unit_of.ensures.value c.piece_count.ensures.count c.div_ceil-entries.ensures) c.loop-index-test.true) in
+    first_inside s.header c.loop-index.index
+    (subst (λ n. c.loop-index.index < n)
+    (entries_are s c.header-header.result.now c.unit_of.result c.piece_count.result c.div_ceil-entries.result
+    c.header-header.ensures c.unit_of.ensures.value c.piece_count.ensures.count c.div_ceil-entries.ensures)
+    c.loop-index-test.true) in
     let few = few_more (entry_pieces s) (piece_count s.header) c.loop-index.index (length front.pages) (length next.pages) inside front.are.0 next.are.0 in
     let goes = c.if-not-branch.false in
     let read = c.in_ok-walk_entry.ensures.untouched in
@@ -138,6 +154,7 @@ returns-clause-part g c =
       are = (
         omega (arith, front.are.0),
         (λ told is f there. front.are.1 told is f there ∙ entries_all f s c.loop-index.index
-            (count ∙ entries_are s c.header-header.result.now c.unit_of.result c.piece_count.result c.div_ceil-entries.result c.header-header.ensures c.unit_of.ensures.value c.piece_count.ensures.count c.div_ceil-entries.ensures)),
+            (count ∙ entries_are s c.header-header.result.now c.unit_of.result c.piece_count.result c.div_ceil-entries.result
+            c.header-header.ensures c.unit_of.ensures.value c.piece_count.ensures.count c.div_ceil-entries.ensures)),
       );
     }

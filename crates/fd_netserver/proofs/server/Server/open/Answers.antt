@@ -10,7 +10,8 @@ use Rattle.fd_netserver.proofs.server.Server.open.Goals as goal
 
 pub returns-in-Ok-Some-clause-stands : goal.returns-in-Ok-Some-clause-stands
 returns-in-Ok-Some-clause-stands g c ss bytes stands =
-    subst (λ l. StandsFor l (ss ++ opened c.args.peer c.in-Ok-Some.number Open ∷ [])) (sym (c.push_reserved.ensures.items ∙ ap (λ l. l ++ c.new.result ∷ []) (c.reserve.ensures.items ∙ c.self.view_is)))
+    subst (λ l. StandsFor l (ss ++ opened c.args.peer c.in-Ok-Some.number Open ∷ []))
+    (sym (c.push_reserved.ensures.items ∙ ap (λ l. l ++ c.new.result ∷ []) (c.reserve.ensures.items ∙ c.self.view_is)))
     (stands_more c.args.self.now ss c.new.result _ stands c.new.ensures)
 
 pub returns-in-Err-clause-turn : goal.returns-in-Err-clause-turn

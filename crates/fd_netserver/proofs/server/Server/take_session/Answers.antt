@@ -23,7 +23,8 @@ returns-clause-turn g c =
 pub returns-clause-stands : goal.returns-clause-stands
 returns-clause-stands g c =
     let e = ap length (c.as_slice.ensures.value ∙ c.self.view_is) in let l = c.if-index-as_slice.false in
-    port_stands c.take.result c.self.inside.sessions.items c.args.self.now c.self.view_is c.index_mut.result.now c.take.new.self c.args.slot c.from-index.result (meant c.args.m.now) c.from-index.ensures
+    port_stands c.take.result c.self.inside.sessions.items c.args.self.now c.self.view_is c.index_mut.result.now c.take.new.self
+    c.args.slot c.from-index.result (meant c.args.m.now) c.from-index.ensures
     (omega (arith, ap length c.self.view_is)) c.index_mut.ensures.value c.take.ensures.stands
 
 pub returns-clause-done : goal.returns-clause-done

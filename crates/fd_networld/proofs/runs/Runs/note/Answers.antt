@@ -8,7 +8,8 @@ use Rattle.fd_networld.proofs.runs.Runs.note.Goals as goal
 pub invariant_of-self-in-Some : goal.invariant_of-self-in-Some
 invariant_of-self-in-Some c =
     c.push_reserved.ensures.items ∙ ap (λ (l : List Answer). l ++ c.in-Some.answer ∷ []) c.reserve.ensures.items
-    ∙ noted c.self.inside.answers.items c.self.inside.earlier.items c.self.inside.run c.note.new.self (exchange c.args.it) (Some c.in-Some.answer) c.self.invariant c.in_ok-note.ensures.ok c.in-Some.ensures
+    ∙ noted c.self.inside.answers.items c.self.inside.earlier.items c.self.inside.run c.note.new.self (exchange c.args.it)
+    (Some c.in-Some.answer) c.self.invariant c.in_ok-note.ensures.ok c.in-Some.ensures
 
 pub invariant_of-self-in_default : goal.invariant_of-self-in_default
 invariant_of-self-in_default c =
