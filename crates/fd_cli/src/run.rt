@@ -117,18 +117,24 @@ fn carry_out<S: Site, L: Link, P: Ports, O: Sink>(
 
 /// Does what the words ask for, prints its text and answers its status.
 ///
-/// `image ARCH NUMBER FILE` writes the image that is made of a number and prints `image FILE BYTES`. `savecore -C` judges
-/// the partition and prints `dump LENGTH`, or the refusal with status 1; `savecore -c` marks its dump as saved and prints
-/// `cleared`; `savecore` saves the dump to files, marks it unless `-k` is given, and prints `saved vmcore.N LENGTH`, or is
-/// refused with 69 where no number is free. `dump IMAGE` writes the dump of a machine image, of that file or made, and prints
-/// `dumped LENGTH`; with `-i` it first marks the dump that stands there as cleared, so that no cut of it mixes the two. `read FILE ADDRESS LENGTH` prints the bytes of a saved minidump at kernel addresses, 16 a line; an address
-/// that has no byte is refused with 1. `pages FILE` prints a line for each dumped page of a saved minidump, and `COUNT pages`.
-/// `netdump IMAGE ADDRESS` sends the dump of a machine image to the server of an IPv4 address and
-/// prints `sent LENGTH LASTSEQNO`; a message that isn't acknowledged is refused with 1. `netdumpd DUMPS` receives so many dumps,
-/// saves them, and prints `received vmcore.N LENGTH` for each; where its turns are spent before, that is refused with 69. A partition that can't hold a dump, a file that is no image or no minidump, and a
-/// partition without room are refused with 65, words that are no command with 64. Status 74 says that the site, the
-/// link, the ports or the sink failed, and a part of the text may then have been printed; a fault of the site doesn't end
-/// `netdumpd`. Status 71 says that no memory was found. But for `netdump` and `netdumpd`, something was written only with 0 and 74.
+/// `image ARCH NUMBER FILE` writes the image that is made of a number and prints `image FILE BYTES`.
+/// `dump IMAGE` writes the dump of a machine image, of that file or made, and prints `dumped LENGTH`; with `-i` it first marks
+/// the dump that stands there as cleared, so that no cut of it mixes the two.
+/// `savecore -C` judges the partition and prints `dump LENGTH`, or the refusal with status 1; `savecore -c` marks its dump as
+/// saved and prints `cleared`; `savecore` saves the dump to files, marks it unless `-k` is given, and prints
+/// `saved vmcore.N LENGTH`, or is refused with 69 where no number is free.
+/// `netdump IMAGE ADDRESS` sends the dump of a machine image to the server of an IPv4 address and prints
+/// `sent LENGTH LASTSEQNO`; a message that isn't acknowledged is refused with 1. `netdumpd DUMPS` receives so many dumps, saves
+/// them, and prints `received vmcore.N LENGTH` for each; where its turns are spent before, that is refused with 69.
+/// `read FILE ADDRESS LENGTH` prints the bytes of a saved minidump at kernel addresses, 16 a line; an address that has no byte
+/// is refused with 1. `pages FILE` prints a line for each dumped page of a saved minidump, and `COUNT pages`.
+/// `drill IMAGE STOP ADDRESS LENGTH` writes the first STOP sectors of an image's dump, saves what then stands on the partition,
+/// clears it, and prints the line of `savecore` and then those of `read` of the saved file.
+///
+/// A partition that can't hold a dump, a file that is no image or no minidump, and a partition without room are refused with
+/// 65, words that are no command with 64. Status 74 says that the site, the link, the ports or the sink failed, and a part of
+/// the text may then have been printed; a fault of the site doesn't end `netdumpd`. Status 71 says that no memory was found.
+/// But for `netdump`, `netdumpd` and `drill`, something was written only with 0 and 74.
 pub fn crashway<S: Site, L: Link, P: Ports, O: Sink>(
     alloc: Global,
     words: &[Word],
@@ -140,14 +146,16 @@ pub fn crashway<S: Site, L: Link, P: Ports, O: Sink>(
     ensures call { Call (row_of (command_of words.now))
         (outside (S.seen site.old) (L.seen link.old) (P.seen ports.old) (O.seen out.old))
         (outside (S.seen site.new) (L.seen link.new) (P.seen ports.new) (O.seen out.new)) result }
-    ensures crash { (source : Source) → command_of words.now ≡ Some (command.Dump false source) → EachCutOf (S.seen site.old).told (S.seen site.new).told (IsCutOfDump source (S.seen site.old).block) }
+    ensures crash { (source : Source) → command_of words.now ≡ Some (command.Dump false source) →
+        EachCutOf (S.seen site.old).told (S.seen site.new).told (IsCutOfDump source (S.seen site.old).block) }
     ensures marked { (source : Source) → command_of words.now ≡ Some (command.Dump true source) →
         EachCutOf (S.seen site.old).told (S.seen site.new).told (IsCutOfMarkedDump source (S.seen site.old).block) }
     ensures found { (mark : Bool) (source : Source) → command_of words.now ≡ Some (command.Dump mark source) → result ≡ 0 →
         IsFound (S.seen site.old).told (S.seen site.new).told source (S.seen site.old).block }
     ensures stopped { (options : Options) (keep : Bool) → command_of words.now ≡ Some (command.Save options keep) →
         EachCutOf (S.seen site.old).told (S.seen site.new).told (IsCutOfSavecore options (S.seen site.old).block) }
-    ensures others { (options : Options) (keep : Bool) → command_of words.now ≡ Some (command.Save options keep) → options.max ≡ None → LeavesSavedFiles (S.seen site.old).told (S.seen site.new).told }
+    ensures others { (options : Options) (keep : Bool) → command_of words.now ≡ Some (command.Save options keep) →
+        options.max ≡ None → LeavesSavedFiles (S.seen site.old).told (S.seen site.new).told }
     ensures delivered { (source : Source) (server : ℕ) → command_of words.now ≡ Some (command.Netdump source server) →
         result ≡ 0 → IsDeliveredTo source server (S.seen site.old) (L.seen link.old).told (L.seen link.new).told }
     ensures reads { (name : List ℕ) (va count : ℕ) → command_of words.now ≡ Some (command.Read name va count) →
