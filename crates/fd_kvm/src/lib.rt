@@ -11,12 +11,8 @@ mod read;
 mod reader;
 mod run;
 mod span;
-#[cfg(test)]
-mod tests;
 mod vmcore;
 mod walk;
-#[cfg(test)]
-mod walk_tests;
 
 pub use fault::ReadFault;
 pub use page::{Page, Visit};

@@ -15,8 +15,6 @@ pub mod laws;
 mod limits;
 mod marks;
 mod sending;
-#[cfg(test)]
-mod tests;
 
 pub use client::{Client, Want};
 pub use fault::ClientFault;

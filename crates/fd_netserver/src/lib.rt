@@ -15,13 +15,9 @@ mod pace;
 mod phase;
 mod record;
 mod reply;
-#[cfg(test)]
-mod serve_tests;
 mod server;
 mod serving;
 mod step;
-#[cfg(test)]
-mod tests;
 
 pub use limits::{Received, ServeFault, ServeLimits, Served};
 pub use phase::Phase;

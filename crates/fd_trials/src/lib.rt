@@ -1,5 +1,5 @@
-//! What no clause says of the crates below, tried by examples: files and header pages by their bytes, printed refusals,
-//! and the outside in memory. They stand here, so that the code of those crates is proved once.
+//! What no clause says of images, minidumps, partitions and saving, tried by examples: files and header pages by their bytes,
+//! printed refusals, and the outside in memory. They stand here, so that the code of those crates is proved once.
 #![tactic(auto)]
 
 #[cfg(test)]

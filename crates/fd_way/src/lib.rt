@@ -7,14 +7,10 @@ mod drilling;
 mod first_sectors;
 pub mod laws;
 mod pages;
-#[cfg(test)]
-mod pages_tests;
 mod print;
 mod print_fault;
 mod savecore;
 mod saved_file;
-#[cfg(test)]
-mod tests;
 mod text;
 mod way_fault;
 

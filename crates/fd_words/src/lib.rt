@@ -16,6 +16,3 @@ mod word;
 pub use command::{Command, read_command};
 pub use source::Source;
 pub use word::Word;
-
-#[cfg(test)]
-mod tests;

@@ -2,9 +2,9 @@
 ghost use Rattle.fd_site.specs.Contents.{Told};
 ghost use Rattle.fd_kvm.specs.Reader.{StandsFor};
 
-use crate::tests::{AMD64_DMAPBASE, AMD64_KERNBASE, header_page, riscv_file, site_of};
-use crate::{Kvm, Page, Visit};
+use crate::vmcores::{AMD64_DMAPBASE, AMD64_KERNBASE, header_page, riscv_file, site_of};
 use fd_bytes::{Arch, put_u32_le, put_u64_le};
+use fd_kvm::{Kvm, Page, Visit};
 use fd_site::{Site, SiteFault, good_name};
 use std::alloc::{AllocError, Global};
 use std::process::Abort;

@@ -3,9 +3,9 @@
 ghost use Rattle.std.specs.Prelude.{◌≤◌, All, IfOk};
 ghost use Rattle.fd_fake.specs.MemPorts.{HasSlot};
 
-use crate::tests::{PEER, Says, Sent, first, herald, put};
-use crate::{Received, ServeFault, ServeLimits, Served, serve};
+use crate::messages::{PEER, Says, Sent, first, herald, put};
 use fd_fake::{Input, MemPorts, MemSite};
+use fd_netserver::{Received, ServeFault, ServeLimits, Served, serve};
 use fd_site::{Ports, Site};
 use std::alloc::{AllocError, Global};
 use std::process::Abort;

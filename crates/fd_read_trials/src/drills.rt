@@ -4,7 +4,6 @@ ghost use Rattle.std.specs.Prelude.{◌≡◌, ◌≤◌, None};
 ghost use Rattle.fd_site.specs.Contents.{nothing_told};
 ghost use Rattle.fd_site.specs.Fault.{Rose};
 
-use crate::{Drilled, WayFault, drill};
 use fd_bytes::Arch;
 use fd_fake::{MemSink, MemSite};
 use fd_image::{Image, Parts, Seg, Sequence, Texts, Windows};
@@ -12,6 +11,7 @@ use fd_judge::Why;
 use fd_part::good_partition;
 use fd_raw::Region;
 use fd_site::{Failed, Site};
+use fd_way::{Drilled, WayFault, drill};
 use std::alloc::{AllocError, Global};
 use std::process::Abort;
 use std::test::Fail;

@@ -1,12 +1,12 @@
-//! Sendings over a link in memory.
+//! Sendings of a small machine's dump, over a link in memory that plays a script.
 
 ghost use Rattle.fd_netclient.specs.Client.{IsPatient};
 
-use crate::{ClientFault, Limits, send_dump};
 use fd_bytes::Arch;
 use fd_dump::Plan;
 use fd_fake::{Answer, LinkEvent, MemLink};
 use fd_image::{Image, Parts, Seg, Sequence, Texts, Windows};
+use fd_netclient::{ClientFault, Limits, send_dump};
 use fd_raw::Region;
 use fd_site::Link;
 use std::alloc::{AllocError, Global};

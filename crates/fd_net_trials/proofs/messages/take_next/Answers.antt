@@ -1,5 +1,5 @@
 use Rattle.fd_netserver.proofs.Running.{has_next, run_there}
-use Rattle.fd_netserver.proofs.tests.take_next.Goals as goal
+use Rattle.fd_net_trials.proofs.messages.take_next.Goals as goal
 
 pub take-requires : goal.take-requires
 take-requires g c = record { there = run_there _ _ c.requires }

@@ -1,42 +1,20 @@
 //! Worlds that are written out as letters, and worlds of any events.
 
 ghost use Rattle.std.specs.Prelude.{◌≡◌, ◌≤◌, IfOk, length};
-ghost use Rattle.fd_kdh.specs.Header.{FitsFields};
 ghost use Rattle.fd_netclient.specs.Client.{IsPatient};
 ghost use Rattle.fd_netmsg.specs.Message.{IsKind};
 ghost use Rattle.fd_networld.specs.World.{AreForeign, IsForeign};
 
-use crate::{Bytes, Event, World, walk_world};
-use fd_bytes::{Arch, Label};
+use crate::messages::header;
 use fd_info::{info_name, vmcore_name};
-use fd_kdh::Header;
 use fd_netclient::{Limits, Want};
 use fd_netmsg::{FINISHED, HERALD, VMCORE, put_message};
 use fd_netserver::{Reply, Skip};
+use fd_networld::{Bytes, Event, World, walk_world};
 use fd_site::{Failed, Peer, Site};
 use std::alloc::{AllocError, Global};
 use std::process::Abort;
 use std::test::Fail;
-
-// The header of a dump of so many bytes.
-fn header(length: u64) -> Header
-    ensures fits { FitsFields result }
-    ensures length { result.dumplength ≡ length }
-{
-    Header {
-        architecture: Label::cut(Arch::Riscv.name()),
-        architectureversion: Arch::Riscv.header_version(),
-        dumplength: length,
-        dumptime: 1_700_000_000,
-        dumpkeysize: 0,
-        blocksize: 512,
-        hostname: Label::cut(b"rv"),
-        versionstring: Label::cut_version(b"FreeBSD 14"),
-        panicstring: Label::cut(b"test"),
-        compression: 0,
-        dumpextent: length,
-    }
-}
 
 // A datagram of another peer.
 fn stranger(

@@ -1,5 +1,6 @@
-use crate::{Command, Source, Word, read_command};
+//! Command lines, and the commands that their words are.
 use fd_bytes::Arch;
+use fd_words::{Command, Source, Word, read_command};
 use std::alloc::Global;
 use std::process::Abort;
 use std::test::Fail;

@@ -1,17 +1,18 @@
 //! Printing the pages of a file in memory.
-use crate::{PagesFault, print_pages};
+use crate::vmcores::site_of;
 use fd_bytes::Arch;
 use fd_fake::{MemSink, MemSite};
 use fd_kvm::Kvm;
 use fd_mini::{MiniHeader, write_header};
 use fd_site::{Sink, Site, good_name};
+use fd_way::{PagesFault, print_pages};
 use std::alloc::{AllocError, Global};
 use std::process::Abort;
 use std::test::Fail;
 
 // A site with the file of a riscv machine with three pages from 0x80000000 on, of which the second and the third are dumped.
 // The second page of its kernel window is the third of these.
-fn site_of(alloc: Global, fails: Vec<u64>) -> Result<MemSite, AllocError> {
+fn three_pages(alloc: Global, fails: Vec<u64>) -> Result<MemSite, AllocError> {
     let header = MiniHeader {
         arch: Arch::Riscv,
         version: 2,
@@ -36,9 +37,7 @@ fn site_of(alloc: Global, fails: Vec<u64>) -> Result<MemSite, AllocError> {
     bytes[12296] = 0xcf;
     bytes[12297] = 8;
     bytes[12299] = 0x20;
-    let mut site = MemSite::new(alloc, 512, 512, fails)?;
-    site.preset_file("vmcore.0", bytes)?;
-    Ok(site)
+    site_of(alloc, bytes, fails)
 }
 
 fn print_file<S: Site, O: Sink>(
@@ -55,7 +54,7 @@ fn print_file<S: Site, O: Sink>(
 #[test]
 fn a_line_is_printed_for_each_page(rt: HostRuntime) -> Result<(), Fail> {
     let alloc = rt.alloc();
-    let mut site = site_of(alloc, Vec::new(alloc))?;
+    let mut site = three_pages(alloc, Vec::new(alloc))?;
     let mut out = MemSink::new(alloc, Vec::new(alloc));
     assert!(rt; print_file(&rt, alloc, &mut site, &mut out) == Ok(2));
     let text =
@@ -67,7 +66,7 @@ fn a_line_is_printed_for_each_page(rt: HostRuntime) -> Result<(), Fail> {
 #[test]
 fn the_first_lines_stay_where_the_sink_fails(rt: HostRuntime) -> Result<(), Fail> {
     let alloc = rt.alloc();
-    let mut site = site_of(alloc, Vec::new(alloc))?;
+    let mut site = three_pages(alloc, Vec::new(alloc))?;
     let mut out = MemSink::new(alloc, vec![in alloc; 2]?);
     assert!(rt; print_file(&rt, alloc, &mut site, &mut out) == Err(PagesFault::SinkFault));
     assert!(rt; out.bytes().len() == 61);
@@ -78,7 +77,7 @@ fn the_first_lines_stay_where_the_sink_fails(rt: HostRuntime) -> Result<(), Fail
 fn nothing_is_printed_where_the_site_fails_first(rt: HostRuntime) -> Result<(), Fail> {
     let alloc = rt.alloc();
     // Opening makes four calls.
-    let mut site = site_of(alloc, vec![in alloc; 5]?)?;
+    let mut site = three_pages(alloc, vec![in alloc; 5]?)?;
     let mut out = MemSink::new(alloc, Vec::new(alloc));
     assert!(rt; print_file(&rt, alloc, &mut site, &mut out) == Err(PagesFault::SiteFault));
     assert!(rt; out.bytes().is_empty());

@@ -4,12 +4,12 @@ ghost use Rattle.std.specs.Prelude.{◌≡◌, ◌≤◌, OnOk};
 ghost use Rattle.fd_kdh.specs.Header.{FitsFields};
 ghost use Rattle.fd_netserver.specs.Running.{HasServed};
 
-use crate::{Reply, Server, Skip};
 use fd_bytes::{Arch, Label};
 use fd_fake::MemSite;
 use fd_info::vmcore_name;
 use fd_kdh::{Header, encode};
 use fd_netmsg::{FINISHED, HERALD, KDH, KEY, VMCORE, put_message};
+use fd_netserver::{Reply, Server, Skip};
 use fd_site::{Peer, Site};
 use std::alloc::{AllocError, Global};
 use std::process::Abort;
@@ -79,7 +79,8 @@ fn second(seqno: u32, says: Says) -> Sent {
 
 // The header of a dump of so many bytes.
 pub(crate) fn header(length: u64) -> Header
-    ensures { FitsFields result }
+    ensures fits { FitsFields result }
+    ensures length { result.dumplength ≡ length }
 {
     Header {
         architecture: Label::cut(Arch::Riscv.name()),
@@ -161,7 +162,7 @@ fn opened(slot: u16, seqno: u32) -> Reply
 
 // A new server over a site, of which the calls of these numbers fail, answers each message by the reply beside it; and then
 // a file has so many bytes.
-#[tactic(auto, using(crate::proofs::Running::has_none))]
+#[tactic(auto, using(fd_netserver::proofs::Running::has_none))]
 fn runs(
     rt: &impl Abort,
     alloc: Global,
