@@ -1,46 +1,20 @@
 //! The leaves of a range of addresses.
 ghost use Rattle.std.specs.Prelude.{◌≡◌, ◌≤◌, ◌<◌, ◌%◌, ◌+◌, ◌^◌, ◌++◌};
-ghost use Rattle.std.specs.Iterator.{YieldsFirst, item_count};
 ghost use Rattle.std.specs.Option.{option_to_list};
 ghost use Rattle.fd_walk.specs.PageTables.{tables_of};
 ghost use Rattle.fd_walk.specs.Ranges.{leaves_in, IsRest};
 
 use crate::address::bytes_under;
-use crate::found::{Finder, Finds, First};
 use crate::leaf::Leaf;
+use crate::range_walk::{Finds, First, RangeWalk};
 use crate::rest::Rest;
 use crate::walker::Walker;
 use fd_image::Memory;
 use fd_pte::Entry;
-use std::marker::Model;
 
 /// The leaves that meet a range, by rising address, each cut to the range. Contracts see the list of
 /// those that are left.
-#[derive(Drop)]
-pub struct Leaves<'a, M: Memory, E: Entry, const LEVELS: usize> {
-    finder: Finder<'a, M, Walker<E, LEVELS>, Leaf>,
-}
-
-impl<'a, M: Memory, E: Entry, const LEVELS: usize> Model for Leaves<'a, M, E, LEVELS> {
-    ghost use Rattle.std.specs.Prelude.{List};
-    ghost use Rattle.fd_walk.specs.declared.leaf.Leaf.{Leaf};
-
-    ghost Value = { List Leaf };
-
-    ghost view = { λ it. it.finder };
-}
-
-impl<'a, M: Memory, E: Entry, const LEVELS: usize> Iterator for Leaves<'a, M, E, LEVELS> {
-    type Item = Leaf;
-
-    ghost next_gives = { YieldsFirst (λ rest. rest) };
-
-    ghost remaining = { item_count (λ rest. rest) };
-
-    fn next(&mut self) -> Option<Leaf> {
-        self.finder.take_first()
-    }
-}
+pub type Leaves<'a, M, E, const LEVELS: usize> = RangeWalk<'a, M, Walker<E, LEVELS>, Leaf>;
 
 impl<E: Entry, const LEVELS: usize> Finds<Leaf> for Walker<E, LEVELS> {
     ghost tables = { λ word_at root. tables_of word_at E.kind_of LEVELS root };
@@ -72,9 +46,7 @@ impl<E: Entry, const LEVELS: usize> Walker<E, LEVELS> {
         requires range { from + bytes ≤ 2 ^ 64 }
         ensures { result ≡ leaves_in (tables_of (M.word_at mem.now) E.kind_of LEVELS root) from bytes }
     {
-        Leaves {
-            finder: Finder::new(mem, root, Self::range(mem, root, from, bytes)),
-        }
+        RangeWalk::new(mem, root, Self::range(mem, root, from, bytes))
     }
 
     // The leaf of a range's first entry.

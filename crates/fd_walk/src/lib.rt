@@ -6,9 +6,9 @@
 
 mod address;
 mod directory;
-mod found;
 mod leaf;
 mod leaves;
+mod range_walk;
 mod rest;
 mod step;
 mod tables;
@@ -18,6 +18,7 @@ mod walker;
 
 pub use leaf::Leaf;
 pub use leaves::Leaves;
+pub use range_walk::RangeWalk;
 pub use step::Step;
 pub use tables::Tables;
 pub use walker::Walker;

@@ -12,7 +12,7 @@ use fd_pte::{Entry, Kind};
 
 /// `left` addresses from `at` on, and the table in which the walk for the first of them goes on.
 #[derive(Clone, Copy)]
-pub(crate) struct Rest {
+pub struct Rest {
     pub(crate) at: u64,
     pub(crate) left: u64,
     pub(crate) place: Place,

@@ -1,45 +1,20 @@
 //! The last-level tables of a range of addresses.
 ghost use Rattle.std.specs.Prelude.{◌≡◌, ◌≤◌, ◌<◌, ◌%◌, ◌+◌, ◌^◌, ◌++◌};
-ghost use Rattle.std.specs.Iterator.{YieldsFirst, item_count};
 ghost use Rattle.std.specs.Option.{option_to_list};
 ghost use Rattle.fd_walk.specs.PageTables.{tables_of};
 ghost use Rattle.fd_walk.specs.Leaf.{table_of_kind};
 ghost use Rattle.fd_walk.specs.Ranges.{last_tables_in, IsRest};
 
-use crate::found::{Finder, Finds, First};
+use crate::range_walk::{Finds, First, RangeWalk};
 use crate::rest::Rest;
 use crate::walker::Walker;
 use fd_image::Memory;
 use fd_pte::{Entry, Kind};
-use std::marker::Model;
 
 /// The addresses of the last-level tables that the entries of height 1 in a range name, in the order
 /// of these entries, whether or not they lie in the memory. Contracts see the list of those that are
 /// left.
-#[derive(Drop)]
-pub struct Tables<'a, M: Memory, E: Entry, const LEVELS: usize> {
-    finder: Finder<'a, M, Walker<E, LEVELS>, u64>,
-}
-
-impl<'a, M: Memory, E: Entry, const LEVELS: usize> Model for Tables<'a, M, E, LEVELS> {
-    ghost use Rattle.std.specs.Prelude.{ℕ, List};
-
-    ghost Value = { List ℕ };
-
-    ghost view = { λ it. it.finder };
-}
-
-impl<'a, M: Memory, E: Entry, const LEVELS: usize> Iterator for Tables<'a, M, E, LEVELS> {
-    type Item = u64;
-
-    ghost next_gives = { YieldsFirst (λ rest. rest) };
-
-    ghost remaining = { item_count (λ rest. rest) };
-
-    fn next(&mut self) -> Option<u64> {
-        self.finder.take_first()
-    }
-}
+pub type Tables<'a, M, E, const LEVELS: usize> = RangeWalk<'a, M, Walker<E, LEVELS>, u64>;
 
 impl<E: Entry, const LEVELS: usize> Finds<u64> for Walker<E, LEVELS> {
     ghost tables = { λ word_at root. tables_of word_at E.kind_of LEVELS root };
@@ -71,9 +46,7 @@ impl<E: Entry, const LEVELS: usize> Walker<E, LEVELS> {
         requires range { from + bytes ≤ 2 ^ 64 }
         ensures { result ≡ last_tables_in (tables_of (M.word_at mem.now) E.kind_of LEVELS root) from bytes }
     {
-        Tables {
-            finder: Finder::new(mem, root, Self::range(mem, root, from, bytes)),
-        }
+        RangeWalk::new(mem, root, Self::range(mem, root, from, bytes))
     }
 
     // The table that a range's first entry of height 1 or above names.

@@ -1,7 +1,7 @@
 -- Entries that give nothing are passed, and what is left to be found stays the same.
 use Rattle.std.proofs.Common.{◌≡◌}
 use Rattle.fd_walk.specs.Ranges.{IsRest}
-use Rattle.fd_walk.proofs.found.Finder.take_first.Given as goal
+use Rattle.fd_walk.proofs.range_walk.RangeWalkIterator.next.Given as goal
 
 abbrev pub invariant-loop-rest : goal.invariant-loop-rest
 invariant-loop-rest g l =

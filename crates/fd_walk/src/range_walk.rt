@@ -1,5 +1,6 @@
 //! What the entries of a range give, one after the other.
-ghost use Rattle.std.specs.Prelude.{◌≡◌, ◌≤◌, ◌<◌, ◌++◌, [], IfNone};
+ghost use Rattle.std.specs.Prelude.{◌≡◌, ◌≤◌, ◌<◌, ◌++◌, []};
+ghost use Rattle.std.specs.Iterator.{YieldsFirst, item_count};
 ghost use Rattle.std.specs.Option.{option_to_list};
 ghost use Rattle.fd_walk.specs.Ranges.{IsRest};
 
@@ -9,13 +10,13 @@ use std::marker::{Model, PhantomData};
 
 /// What a range gives first, if its first entry gives anything, and the range behind that entry.
 #[derive(Clone, Copy)]
-pub(crate) struct First<T: Copy> {
+pub struct First<T: Copy> {
     pub(crate) found: Option<T>,
     pub(crate) rest: Rest,
 }
 
 /// Walks that look at the entries of a range for something: leaves, or the last-level tables that entries name.
-pub(crate) trait Finds<T: Copy> {
+pub trait Finds<T: Copy> {
     ghost use Rattle.std.specs.Prelude.{ℕ, Option, List};
     ghost use Rattle.fd_walk.specs.PageTables.{PageTables};
 
@@ -41,9 +42,9 @@ pub(crate) trait Finds<T: Copy> {
     ghost none: { (t : PageTables) (at : ℕ) → found_in t at 0 ≡ [] };
 }
 
-/// What is left of a range, for a walk that finds something. Contracts see the list of what it will find.
+/// What a walk finds in a range, by rising address. Contracts see the list of what is left to be found.
 #[derive(Drop)]
-pub(crate) struct Finder<'a, M: Memory, W: Finds<T>, T: Copy> {
+pub struct RangeWalk<'a, M: Memory, W: Finds<T>, T: Copy> {
     mem: &'a M,
     root: u64,
     rest: Rest,
@@ -51,24 +52,24 @@ pub(crate) struct Finder<'a, M: Memory, W: Finds<T>, T: Copy> {
     found: PhantomData<T>,
 }
 
-impl<'a, M: Memory, W: Finds<T>, T: Copy> Model for Finder<'a, M, W, T> {
+impl<'a, M: Memory, W: Finds<T>, T: Copy> Model for RangeWalk<'a, M, W, T> {
     ghost use Rattle.std.specs.Prelude.{List};
     ghost use Rattle.fd_walk.specs.Ranges.{IsRest};
 
     ghost Value = { List T };
 
-    ghost view = { λ f. W.found_in (W.tables (M.word_at f.mem.now) f.root) f.rest.at f.rest.left };
+    ghost view = { λ w. W.found_in (W.tables (M.word_at w.mem.now) w.root) w.rest.at w.rest.left };
 
-    ghost invariant = { λ f. IsRest (W.tables (M.word_at f.mem.now) f.root) W.lowest f.rest };
+    ghost invariant = { λ w. IsRest (W.tables (M.word_at w.mem.now) w.root) W.lowest w.rest };
 }
 
-impl<'a, M: Memory, W: Finds<T>, T: Copy> Finder<'a, M, W, T> {
+impl<'a, M: Memory, W: Finds<T>, T: Copy> RangeWalk<'a, M, W, T> {
     /// Of this range.
-    pub(crate) fn new(mem: &'a M, root: u64, rest: Rest) -> Finder<'a, M, W, T>
+    pub(crate) fn new(mem: &'a M, root: u64, rest: Rest) -> RangeWalk<'a, M, W, T>
         requires { IsRest (W.tables (M.word_at mem.now) root) W.lowest rest }
         ensures { result ≡ W.found_in (W.tables (M.word_at mem.now) root) rest.at rest.left }
     {
-        Finder {
+        RangeWalk {
             mem,
             root,
             rest,
@@ -76,12 +77,16 @@ impl<'a, M: Memory, W: Finds<T>, T: Copy> Finder<'a, M, W, T> {
             found: PhantomData,
         }
     }
+}
 
-    /// Takes the first of what is left.
-    pub(crate) fn take_first(&mut self) -> Option<T>
-        ensures first { self.old ≡ option_to_list result ++ self.new }
-        ensures none { IfNone result (self.new ≡ []) }
-    {
+impl<'a, M: Memory, W: Finds<T>, T: Copy> Iterator for RangeWalk<'a, M, W, T> {
+    type Item = T;
+
+    ghost next_gives = { YieldsFirst (λ rest. rest) };
+
+    ghost remaining = { item_count (λ rest. rest) };
+
+    fn next(&mut self) -> Option<T> {
         let mut rest = self.rest;
         while rest.left > 0 {
             let first = W::first(self.mem, self.root, rest);
