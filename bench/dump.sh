@@ -2,8 +2,9 @@
 # `dump` of riscv images of 64 MiB, 256 MiB and 1 GiB, all of whose pages are dumped, and of the image of 64 MiB that the
 # command `image` makes, of which two thirds are. Beside it in turn: a plain C program of the same shape, which reads the
 # whole image into fresh memory and writes as many bytes of it as the dump has, in pieces of 1 MiB; the same with a sync of
-# the partition at the end, as `dump` syncs it around the headers; and dd, which copies the bytes in pieces of 4096. Processor
-# time, peak memory and ratios. The first argument is how many runs are timed (11 if it is left
+# the partition at the end, as `dump` syncs it around the headers; and dd, which copies the bytes in pieces of 4096. `dump` is
+# started as the script `crashway` does, which has large pages for its memory; it and the C program are also run with the
+# other kind of pages. Processor time, peak memory and ratios. The first argument is how many runs are timed (11 if it is left
 # out), the others are the sizes in MiB. It needs cc, and for 1 GiB some 4 GiB of disk.
 set -eu
 top=$(cd "$(dirname "$0")/.." && pwd)
@@ -56,8 +57,10 @@ measure() {
     length=$((length < size ? length : size))
     truncate -s "$size" "$folder/copy"
     echo "$1: an image of $size bytes, $words"
-    alternate -- dump "$program" "$folder" 512 dump a.img \
+    alternate -- dump "$large_pages" "$program" "$folder" 512 dump a.img \
+        -- 'small pages' "$program" "$folder" 512 dump a.img \
         -- 'plain C' "$folder/plain" "$folder/a.img" "$folder/copy" "$length" \
+        -- 'C, large pages' "$large_pages" "$folder/plain" "$folder/a.img" "$folder/copy" "$length" \
         -- 'C with a sync' "$folder/plain" "$folder/a.img" "$folder/copy" "$length" sync \
         -- dd dd "if=$folder/a.img" "of=$folder/copy" bs=4096 "count=$((length / 4096))" conv=notrunc status=none
 }

@@ -21,7 +21,8 @@ int main(int count, char **args) {
     if (count != 3) return 1;
     uint64_t pages = strtoull(args[1], NULL, 10), place = strtoull(args[2], NULL, 10);
     for (uint64_t i = 0; i < 4096 * pages; i += 4096)
-        printf("%016" PRIx64 " - %016" PRIx64 " rw- %" PRIu64 "\n", UINT64_C(0x80000000) + i, UINT64_C(0xffffffd000000000) + i, place + i);
+        printf("%016" PRIx64 " - %016" PRIx64 " rw- %" PRIu64 "\n",
+               UINT64_C(0x80000000) + i, UINT64_C(0xffffffd000000000) + i, place + i);
     printf("%" PRIu64 " pages\n", pages);
     return fflush(stdout) != 0;
 }

@@ -14,9 +14,19 @@ cat >"$folder/alternate.c" <<'C'
 enum { MOST_COMMANDS = 8 };
 extern char **environ;
 
-static struct command { char *name, **words; double *seconds, *ratios; long peak; } commands[MOST_COMMANDS];
+static struct command { char *name, **words, **environment; double *seconds, *ratios; long peak; } commands[MOST_COMMANDS];
 
 static double in_seconds(struct timeval time) { return time.tv_sec + time.tv_usec / 1e6; }
+
+/* The environment, with a setting NAME=VALUE before all others. */
+static char **environment_with(char *setting) {
+    int count = 0;
+    while (environ[count]) count++;
+    char **own = calloc(count + 2, sizeof *own);
+    own[0] = setting;
+    memcpy(own + 1, environ, count * sizeof *own);
+    return own;
+}
 
 static void run(struct command *command, int round) {
     posix_spawn_file_actions_t files;
@@ -25,7 +35,7 @@ static void run(struct command *command, int round) {
     pid_t pid;
     int status;
     struct rusage used;
-    if (posix_spawnp(&pid, command->words[0], &files, NULL, command->words, environ) != 0 ||
+    if (posix_spawnp(&pid, command->words[0], &files, NULL, command->words, command->environment) != 0 ||
         wait4(pid, &status, 0, &used) != pid || status != 0) {
         fprintf(stderr, "%s didn't end with status 0\n", command->name);
         exit(1);
@@ -50,7 +60,9 @@ int main(int count, char **args) {
     for (int i = 2; i < count; i++) {
         if (strcmp(args[i], "--")) continue;
         args[i] = NULL;
-        commands[known++] = (struct command){args[i + 1], args + i + 2, calloc(runs, 8), calloc(runs, 8), 0};
+        char **words = args + i + 2, **environment = environ;
+        if (strchr(words[0], '=')) environment = environment_with(*words++);
+        commands[known++] = (struct command){args[i + 1], words, environment, calloc(runs, 8), calloc(runs, 8), 0};
     }
     for (int round = 0; round < runs; round++)
         for (int i = 0; i < known; i++) run(commands + i, round);
@@ -67,6 +79,10 @@ int main(int count, char **args) {
 C
 cc -O2 -Wall -Werror -o "$folder/alternate" "$folder/alternate.c"
 
-# alternate -- NAME WORDS.. -- NAME WORDS.. ..: runs the commands in turn, and says for each the median of its processor
-# time, its peak memory, and the median ratio of the first one's time to its own in the same round.
+# How the script `crashway` starts the program: with large pages for its memory.
+large_pages=GLIBC_TUNABLES=glibc.malloc.hugetlb=1
+
+# alternate -- NAME [SETTING] WORDS.. -- NAME [SETTING] WORDS.. ..: runs the commands in turn, each with what SETTING adds to the
+# environment, and says for each the median of its processor time, its peak memory, and the median ratio of the first one's
+# time to its own in the same round.
 alternate() { "$folder/alternate" "$runs" "$@"; }
