@@ -45,9 +45,10 @@ impl<'a, R: Files<File = File> + Eprint + AllocGlobal> DirSite<'a, R> {
         ensures faults { IfOk result (λ s. (⟦<DirSite<'a, R> as Site>⟧.seen s).faults ≡ 0) }
     {
         let directory = PathBuf::from_str(rt.alloc(), directory)?;
-        let (dumpdev, size) = match Partition::open(rt, directory.join(rt.alloc(), "dumpdev")?) {
-            Ok(mut partition) => {
-                let size = partition.size()?;
+        let dumpdev = directory.join(rt.alloc(), "dumpdev")?;
+        let (dumpdev, size) = match Partition::open(rt, dumpdev, block) {
+            Ok(partition) => {
+                let size = partition.size;
                 (Some(partition), size)
             }
             Err(why) if is_missing(&why) => (None, 0),
@@ -114,14 +115,18 @@ fn sync<R: Files<File = File>>(rt: &R, directory: &PathBuf, file: &Opened) -> io
     File::open(rt, directory)?.sync_all()
 }
 
-fn read_partition(dumpdev: &Option<Partition>, out: &mut [u8], at: u64) -> io::Result<()> {
-    match dumpdev {
+// After an error of this call and of the next one nothing is known of what the disk has, and the partition is let go.
+fn read_partition(dumpdev: &mut Option<Partition>, out: &mut [u8], at: u64) -> io::Result<()> {
+    let read = match dumpdev {
         Some(partition) => partition.read(out, at),
         None => Err(missing()),
+    };
+    if read.is_err() {
+        *dumpdev = None;
     }
+    read
 }
 
-// After an error nothing is known of what the disk has, and the partition is let go.
 fn write_partition<R: Files<File = File>>(
     rt: &R,
     dumpdev: &mut Option<Partition>,
@@ -150,7 +155,7 @@ impl<'a, R: Files<File = File> + Eprint + AllocGlobal> Site for DirSite<'a, R> {
     }
 
     fn read_part(&mut self, at: u64, out: &mut [u8]) -> Result<(), Failed> {
-        let read = read_partition(&self.dumpdev, out, at);
+        let read = read_partition(&mut self.dumpdev, out, at);
         counted(self.rt, "dumpdev", &mut self.faults, read)
     }
 

@@ -96,8 +96,13 @@ impl Opened {
         self.file.write_all_at(bytes, at)
     }
 
-    /// Waits until the disk has what was written.
+    /// Waits until the disk has what was written, and the file's length.
     pub(crate) fn sync(&self) -> io::Result<()> {
         self.file.sync_all()
+    }
+
+    /// Waits until the disk has what was written, where the length stayed.
+    pub(crate) fn sync_data(&self) -> io::Result<()> {
+        self.file.sync_data()
     }
 }
