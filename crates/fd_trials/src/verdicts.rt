@@ -3,7 +3,7 @@
 ghost use Rattle.std.specs.Prelude.{◌≡◌, ◌≤◌, ◌%◌, ◌^◌, [], length, IfOk};
 ghost use Rattle.fd_kdh.specs.Header.{FitsFields};
 
-use crate::partitions::{header, partition, small};
+use crate::partitions::{failing_partition, header, partition, small};
 use fd_bytes::Label;
 use fd_fake::MemSite;
 use fd_judge::{Verdict, Why, judge};
@@ -85,7 +85,7 @@ pub(crate) fn is_dump<S: Site>(
 }
 
 // A block of 4096 bytes that begins with this sector.
-fn block_of(alloc: Global, sector: &[u8; 512], rest: u8) -> Result<Vec<u8>, Fail>
+pub(crate) fn block_of(alloc: Global, sector: &[u8; 512], rest: u8) -> Result<Vec<u8>, Fail>
     ensures { IfOk result (λ block. length block.items ≡ 4096) }
 {
     let mut block = vec![in alloc; rest; 4096]?;
@@ -94,7 +94,7 @@ fn block_of(alloc: Global, sector: &[u8; 512], rest: u8) -> Result<Vec<u8>, Fail
 }
 
 // Writes those of a block's eight sectors whose bits are set.
-fn tear<S: Site>(
+pub(crate) fn tear<S: Site>(
     rt: &impl Abort,
     site: &mut S,
     at: u32,
@@ -128,16 +128,34 @@ fn preset_blocks(site: &mut MemSite, leading: &[u8], trailing: &[u8])
     site.preset_part(102400, trailing);
 }
 
-// A partition of 106496 bytes with blocks of 4096, on which an earlier dump was saved and cleared.
-fn cleared_partition(alloc: Global) -> Result<MemSite, Fail> {
-    let mut earlier = header(4096, 32768);
-    earlier.dumptime = 1_600_000_000;
-    let live = encode(&earlier);
+// The header of an earlier dump on that partition.
+pub(crate) fn earlier() -> Header
+    ensures { FitsFields result }
+{
+    Header {
+        dumptime: 1_600_000_000,
+        ..header(4096, 32768)
+    }
+}
+
+// A partition of 106496 bytes with blocks of 4096, on which the trailing header of an earlier dump of zeros has this magic;
+// the calls of these numbers fail.
+pub(crate) fn earlier_partition(
+    alloc: Global,
+    magic: &[u8; 20],
+    fails: Vec<u64>,
+) -> Result<MemSite, Fail> {
+    let live = encode(&earlier());
     let leading = block_of(alloc, &live, 9)?;
-    let trailing = block_of(alloc, &beginning(&live, &CLEARED_MAGIC), 9)?;
-    let mut site = partition(alloc, 106496, 4096)?;
+    let trailing = block_of(alloc, &beginning(&live, magic), 9)?;
+    let mut site = failing_partition(alloc, 106496, 4096, fails)?;
     preset_blocks(&mut site, &leading, &trailing);
     Ok(site)
+}
+
+// Such a partition, whose dump was saved and cleared.
+fn cleared_partition(alloc: Global) -> Result<MemSite, Fail> {
+    earlier_partition(alloc, &CLEARED_MAGIC, Vec::new(alloc))
 }
 
 // Writes a body behind its leading block, of which these sectors are new.
