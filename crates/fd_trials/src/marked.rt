@@ -84,13 +84,18 @@ fn a_plain_dump_over_another_mixes_them(rt: HostRuntime) -> Result<(), Fail> {
     Ok(())
 }
 
-// A dump of two pages, which are two writes. With blocks of 4096 each of them, the leading block and the trailing one has
-// eight sectors: 24 stand before the trailing block's, whose first one makes the dump whole to a judge.
+// What an earlier dump has, and a page of the new one. That has two pages, which are two writes. With blocks of 4096 each of
+// them, the leading block and the trailing one has eight sectors: 24 stand before the trailing block's, whose first one
+// makes the dump whole to a judge.
+const ZEROS: [u8; 32768] = [0; 32768];
+
+const PAGE: [u8; 4096] = [9; 4096];
+
 const PAGES: [u8; 8192] = [9; 8192];
 
 const TRAILING: u64 = 24;
 
-// What stands on a partition of 106496 bytes with such blocks before that dump.
+// What stands on a partition of 106496 bytes with such blocks before the new dump.
 #[derive(Clone, Copy, Debug)]
 enum Before {
     Live,
@@ -146,10 +151,11 @@ impl Before {
 
     // What is left by so many sectors.
     fn after(self, sectors: u64) -> Left {
-        if sectors < self.marks() {
+        let marks = self.marks();
+        if sectors < marks {
             return self.unmarked();
         }
-        if sectors - self.marks() <= TRAILING {
+        if sectors - marks <= TRAILING {
             return self.marked();
         }
         Left::Pages
@@ -158,7 +164,7 @@ impl Before {
 
 fn is_left<S: Site>(rt: &impl Abort, site: &mut S, left: Left) -> Result<bool, Fail> {
     match left {
-        Left::Earlier => is_dump(rt, site, &earlier(), 69632, &[0; 32768]),
+        Left::Earlier => is_dump(rt, site, &earlier(), 69632, &ZEROS),
         Left::Refused(why) => Ok(refusal(rt, site)? == Some(why)),
         Left::Pages => is_dump(rt, site, &header(4096, 8192), 94208, &PAGES),
     }
@@ -263,14 +269,14 @@ fn is_torn(
 // Each sector of a write alone, those between the first and the last, these two, and every other one.
 const KEPT: [u32; 12] = [1, 2, 4, 8, 16, 32, 64, 128, 0x7e, 0x81, 0x55, 0xaa];
 
-fn tears(rt: &impl Abort, alloc: Global, before: Before, header: &[u8]) -> Result<(), Fail>
-    requires { length header.now ≡ 4096 }
+fn tears(rt: &impl Abort, alloc: Global, before: Before, block: &[u8]) -> Result<(), Fail>
+    requires { length block.now ≡ 4096 }
 {
     for kept in KEPT.as_slice() {
-        is_torn(rt, alloc, before, 0, 94208, &PAGES[..4096], *kept)?;
-        is_torn(rt, alloc, before, 8, 98304, &PAGES[4096..], *kept)?;
-        is_torn(rt, alloc, before, 16, 90112, header, *kept)?;
-        is_torn(rt, alloc, before, TRAILING, 102400, header, *kept)?;
+        is_torn(rt, alloc, before, 0, 94208, &PAGE, *kept)?;
+        is_torn(rt, alloc, before, 8, 98304, &PAGE, *kept)?;
+        is_torn(rt, alloc, before, 16, 90112, block, *kept)?;
+        is_torn(rt, alloc, before, TRAILING, 102400, block, *kept)?;
     }
     Ok(())
 }
