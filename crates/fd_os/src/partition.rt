@@ -10,7 +10,7 @@ use std::rt::Files;
 #[derive(Drop)]
 pub(crate) struct Partition {
     opened: Opened,
-    pub size: u64,
+    pub(crate) size: u64,
     // Where its last block begins, whose header says whether a dump stands there.
     trailing: u64,
     end: Option<u64>,
