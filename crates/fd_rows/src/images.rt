@@ -1,6 +1,6 @@
 //! Images that are made of a number, written to files and dumped, over partitions and files in memory.
 
-use crate::partitions::{check, failing_once, partition, read_sectors};
+use crate::partitions::{check, partition, read_sectors};
 use fd_fake::MemSite;
 use std::alloc::Global;
 use std::process::Abort;
@@ -121,38 +121,6 @@ fn an_image_is_made_of_an_architecture_and_a_number(rt: HostRuntime) -> Result<(
     .as_slice()
     {
         is_no_command(&rt, alloc, &["image", *arch, *number, *file])?;
-    }
-    Ok(())
-}
-
-// The image that is written where one call fails, and then the image without a fault.
-fn fails_and_writes(rt: &impl Abort, alloc: Global, site: &mut MemSite) -> Result<(), Fail> {
-    let words = ["image", "riscv", "0", "a.img"];
-    check(rt, alloc, site, &words, 74, "")?;
-    check(rt, alloc, site, &words, 0, "image a.img 53314\n")?;
-    assert_eq!(rt; site.starved(), 0);
-    Ok(())
-}
-
-fn fails_at(rt: &impl Abort, alloc: Global, failing: u64) -> Result<(), Fail> {
-    let mut site = failing_once(alloc, 0, failing)?;
-    fails_and_writes(rt, alloc, &mut site)
-}
-
-// How many calls it takes to write the image.
-fn calls_of_image(rt: &impl Abort, alloc: Global) -> Result<u64, Fail> {
-    let mut site = partition(alloc, 0, 512)?;
-    let words = ["image", "riscv", "0", "a.img"];
-    check(rt, alloc, &mut site, &words, 0, "image a.img 53314\n")?;
-    Ok(site.calls())
-}
-
-#[test]
-fn an_image_of_which_any_call_fails_is_not_announced(rt: HostRuntime) -> Result<(), Fail> {
-    let alloc = rt.alloc();
-    let calls = calls_of_image(&rt, alloc)?;
-    for failing in 0..calls {
-        fails_at(&rt, alloc, failing + 1)?;
     }
     Ok(())
 }

@@ -9,6 +9,8 @@ mod drills;
 #[cfg(test)]
 mod dumps;
 #[cfg(test)]
+mod faults;
+#[cfg(test)]
 mod fields;
 #[cfg(test)]
 mod image_files;
@@ -26,6 +28,8 @@ mod partitions;
 mod reads;
 #[cfg(test)]
 mod saves;
+#[cfg(test)]
+mod stands;
 #[cfg(test)]
 mod verdicts;
 #[cfg(test)]

@@ -80,6 +80,15 @@ pub(crate) fn words_of(alloc: Global, words: &[&str]) -> Result<Vec<Word>, Fail>
     Ok(list)
 }
 
+// The words between spaces.
+pub(crate) fn words_in(alloc: Global, line: &str) -> Result<Vec<Word>, Fail> {
+    let mut list = Vec::new(alloc);
+    for word in line.split(' ') {
+        list.push(Word::new(String::from_str(alloc, word)?))?;
+    }
+    Ok(list)
+}
+
 // Runs the words over the site without a network, and gives the status.
 pub(crate) fn run<S: Site>(alloc: Global, words: &[Word], site: &mut S, out: &mut MemSink) -> u8 {
     let (mut link, mut ports) = (NoNet::new(), NoNet::new());
@@ -109,6 +118,20 @@ pub(crate) fn check<S: Site>(
     text: &str,
 ) -> Result<(), Fail> {
     let list = words_of(alloc, words)?;
+    ends(rt, alloc, site, &list, status, text);
+    Ok(())
+}
+
+// The same of words between spaces.
+pub(crate) fn check_line<S: Site>(
+    rt: &impl Abort,
+    alloc: Global,
+    site: &mut S,
+    line: &str,
+    status: u8,
+    text: &str,
+) -> Result<(), Fail> {
+    let list = words_in(alloc, line)?;
     ends(rt, alloc, site, &list, status, text);
     Ok(())
 }

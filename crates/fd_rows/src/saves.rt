@@ -7,6 +7,7 @@ use crate::image_files::riscv_image;
 use crate::partitions::{
     check, failing_once, header, not_a_command, partition, preset_headers, read_sectors,
 };
+use crate::stands::holds;
 use fd_fake::{MemSite, StopSite};
 use fd_kdh::encode;
 use fd_site::{Site, good_name};
@@ -47,34 +48,21 @@ fn reads_as_the_image<S: Site>(
     does(rt, alloc, site, &words, text)
 }
 
-// Whether a file has this text.
-pub(crate) fn holds<S: Site>(rt: &impl Abort, site: &mut S, name: &str, text: &[u8]) {
-    let mut buffer = [0; 512];
-    assert!(rt; good_name(name));
-    match site.file_len(name) {
-        Ok(Some(len)) if len == text.len() as u64 && len <= 512 => {
-            let part = &mut buffer[..len as usize];
-            assert!(rt; site.read_file(name, 0, part).is_ok());
-            assert!(rt; *part == *text, "{name}");
-        }
-        _ => assert!(rt; false, "{name}"),
-    }
-}
-
-fn has_texts<S: Site>(rt: &impl Abort, site: &mut S) {
+fn has_texts<S: Site>(rt: &impl Abort, alloc: Global, site: &mut S) -> Result<(), Fail> {
     holds(
         rt,
+        alloc,
         site,
         "info.0",
         b"Dump header from device: dumpdev\n  Architecture: riscv64\n  Architecture Version: 1\n  Dump Length: 32768\n  Blocksize: 512\n  Compression: none\n  Dumptime: 1700000000\n  Hostname: rv\n  Magic: FreeBSD Kernel Dump\n  Version String: FreeBSD 14\n  Panic String: test\n  Dump Parity: 0x0d4fe538\n  Bounds: 0\n  Dump Status: good\n",
-    );
-    holds(rt, site, "bounds", b"1\n");
+    )?;
+    holds(rt, alloc, site, "bounds", b"1\n")
 }
 
 fn saves_and_reads<S: Site>(rt: &impl Abort, alloc: Global, site: &mut S) -> Result<(), Fail> {
     does(rt, alloc, site, &["dump", "a.img"], "dumped 32768\n")?;
     does(rt, alloc, site, &["savecore"], "saved vmcore.0 32768\n")?;
-    has_texts(rt, site);
+    has_texts(rt, alloc, site)?;
     reads_as_the_image(rt, alloc, site, "vmcore.0")?;
     does(
         rt,
@@ -160,8 +148,7 @@ fn saves_and_has_next<S: Site>(
     next: &[u8],
 ) -> Result<(), Fail> {
     does(rt, alloc, site, words, line)?;
-    holds(rt, site, "bounds", next);
-    Ok(())
+    holds(rt, alloc, site, "bounds", next)
 }
 
 #[test]
@@ -278,8 +265,7 @@ fn is_saved_beside<S: Site>(
 ) -> Result<(), Fail> {
     is_cleared(rt, alloc, site)?;
     reads_as_the_image(rt, alloc, site, name)?;
-    holds(rt, site, "vmcore.0", b"x");
-    Ok(())
+    holds(rt, alloc, site, "vmcore.0", b"x")
 }
 
 // A save whose call fails prints nothing and leaves the dump on the partition, and the next one saves it, under a number of
@@ -380,7 +366,7 @@ fn save_until(
 fn stops_before_clearing(rt: &impl Abort, alloc: Global, site: &mut MemSite) -> Result<(), Fail> {
     save_until(rt, alloc, site, 0, 74, "")?;
     is_live(rt, alloc, site)?;
-    has_texts(rt, site);
+    has_texts(rt, alloc, site)?;
     reads_as_the_image(rt, alloc, site, "vmcore.0")
 }
 
@@ -388,7 +374,7 @@ fn stops_before_clearing(rt: &impl Abort, alloc: Global, site: &mut MemSite) -> 
 fn stops_after_clearing(rt: &impl Abort, alloc: Global, site: &mut MemSite) -> Result<(), Fail> {
     save_until(rt, alloc, site, 1, 0, "saved vmcore.0 32768\n")?;
     is_cleared(rt, alloc, site)?;
-    has_texts(rt, site);
+    has_texts(rt, alloc, site)?;
     reads_as_the_image(rt, alloc, site, "vmcore.0")
 }
 
@@ -409,7 +395,7 @@ fn a_machine_that_stops_after_the_clearing_has_the_files(rt: HostRuntime) -> Res
 // A save that fails while it writes `info.1` leaves `vmcore.1` whole.
 fn fails_in_texts<S: Site>(rt: &impl Abort, alloc: Global, site: &mut S) -> Result<(), Fail> {
     check(rt, alloc, site, &["savecore"], 74, "")?;
-    holds(rt, site, "info.1", b"");
+    holds(rt, alloc, site, "info.1", b"")?;
     reads_as_the_image(rt, alloc, site, "vmcore.1")
 }
 
@@ -420,11 +406,10 @@ fn saves_behind_what_was_begun<S: Site>(
     site: &mut S,
 ) -> Result<(), Fail> {
     does(rt, alloc, site, &["savecore"], "saved vmcore.2 32768\n")?;
-    holds(rt, site, "vmcore.0", b"x");
+    holds(rt, alloc, site, "vmcore.0", b"x")?;
     reads_as_the_image(rt, alloc, site, "vmcore.1")?;
-    holds(rt, site, "info.1", b"");
-    holds(rt, site, "bounds", b"3\n");
-    Ok(())
+    holds(rt, alloc, site, "info.1", b"")?;
+    holds(rt, alloc, site, "bounds", b"3\n")
 }
 
 fn fails_and_saves_behind<S: Site>(

@@ -1,14 +1,13 @@
 //! Lists of the pages of saved minidumps, over files in memory.
 
-use crate::partitions::{check, run, words_of};
-use crate::reads::{amd64_vmcore, failing_with_vmcore, riscv_vmcore, with_u32, with_vmcore};
-use fd_fake::{MemSink, MemSite};
+use crate::partitions::check;
+use crate::reads::{amd64_vmcore, riscv_vmcore, with_u32, with_vmcore};
 use std::alloc::Global;
 use std::process::Abort;
 use std::test::Fail;
 
 // The pages of the minidump of amd64's image.
-static OF_AMD64: &str = "\
+pub(crate) const OF_AMD64: &str = "\
 00000000401ff000 fffffe00001ff000 fffff800401ff000 rwx 36864
 0000000040200000 fffffe0000200000 fffff80040200000 rwx 40960
 0000000000104000 fffffe0040000000 fffff80000104000 rwx 28672
@@ -19,7 +18,7 @@ static OF_AMD64: &str = "\
 ";
 
 // The pages of the minidump of riscv's image, where its ranges are read as the bitmap.
-static WITHOUT_RANGES: &str = "\
+const WITHOUT_RANGES: &str = "\
 000000000001f000 - - rw- 16384
 000000000004d000 - - rw- 20480
 000000000004e000 - - rw- 24576
@@ -43,44 +42,4 @@ fn pages_of_a_file_without_ranges_are_listed(rt: HostRuntime) -> Result<(), Fail
     let alloc = rt.alloc();
     let vmcore = riscv_vmcore(&rt, alloc)?;
     lists(&rt, alloc, with_u32(alloc, &vmcore, 72, 0)?, WITHOUT_RANGES)
-}
-
-// Lists the pages where one call fails, and gives how many bytes were printed.
-fn printed_of(rt: &impl Abort, alloc: Global, site: &mut MemSite) -> Result<usize, Fail> {
-    let words = words_of(alloc, &["pages", "vmcore.0"])?;
-    let mut out = MemSink::new(alloc, Vec::new(alloc));
-    assert_eq!(rt; run(alloc, &words, site, &mut out), 74);
-    assert!(rt; OF_AMD64.as_bytes().starts_with(out.bytes()));
-    assert_eq!(rt; site.starved(), 0);
-    Ok(out.bytes().len())
-}
-
-fn fails_at(rt: &impl Abort, alloc: Global, vmcore: &[u8], failing: u64) -> Result<usize, Fail> {
-    let mut site = failing_with_vmcore(alloc, vmcore, failing)?;
-    printed_of(rt, alloc, &mut site)
-}
-
-// How many calls the list takes.
-fn calls_of_list(rt: &impl Abort, alloc: Global, vmcore: &[u8]) -> Result<u64, Fail> {
-    let mut site = failing_with_vmcore(alloc, vmcore, 0)?;
-    check(rt, alloc, &mut site, &["pages", "vmcore.0"], 0, OF_AMD64)?;
-    Ok(site.calls())
-}
-
-// Where the first call fails nothing is printed; where the last one does, some lines are.
-fn fails_at_each_call(rt: &impl Abort, alloc: Global, vmcore: &[u8]) -> Result<(), Fail> {
-    let calls = calls_of_list(rt, alloc, vmcore)?;
-    assert!(rt; calls > 1);
-    for failing in 1..=calls {
-        let printed = fails_at(rt, alloc, vmcore, failing)?;
-        assert!(rt; failing > 1 || printed == 0);
-        assert!(rt; failing < calls || printed > 0);
-    }
-    Ok(())
-}
-
-#[test]
-fn a_list_of_which_any_call_fails_is_cut(rt: HostRuntime) -> Result<(), Fail> {
-    let alloc = rt.alloc();
-    fails_at_each_call(&rt, alloc, &amd64_vmcore(&rt, alloc)?)
 }
