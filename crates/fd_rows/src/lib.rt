@@ -5,6 +5,8 @@
 #[cfg(test)]
 mod crowded;
 #[cfg(test)]
+mod cuts;
+#[cfg(test)]
 mod drills;
 #[cfg(test)]
 mod dumps;
@@ -16,8 +18,6 @@ mod fields;
 mod image_files;
 #[cfg(test)]
 mod images;
-#[cfg(test)]
-mod marks;
 #[cfg(test)]
 mod networks;
 #[cfg(test)]
