@@ -19,6 +19,8 @@ mod image_files;
 #[cfg(test)]
 mod images;
 #[cfg(test)]
+mod network_faults;
+#[cfg(test)]
 mod networks;
 #[cfg(test)]
 mod no_net;
@@ -26,6 +28,8 @@ mod no_net;
 mod partitions;
 #[cfg(test)]
 mod reads;
+#[cfg(test)]
+mod replay;
 #[cfg(test)]
 mod saves;
 #[cfg(test)]

@@ -4,9 +4,10 @@ use crate::dumps::with_image;
 use crate::image_files::riscv_image;
 use crate::no_net::NoNet;
 use crate::partitions::{check, partition, words_of};
-use fd_cli::{Word, crashway};
+use crate::replay::Replay;
+use fd_cli::crashway;
 use fd_fake::{Answer, LinkEvent, MemLink, MemSink};
-use fd_site::{Failed, Link, Peer, Ports, Site, Taken};
+use fd_site::{Link, Ports, Site};
 use std::alloc::{AllocError, Global};
 use std::process::Abort;
 use std::test::Fail;
@@ -31,7 +32,7 @@ fn goes<S: Site, L: Link, P: Ports>(
 }
 
 // Sends the dump of `a.img` over the link.
-fn sends<S: Site, L: Link>(
+pub(crate) fn sends<S: Site, L: Link>(
     rt: &impl Abort,
     alloc: Global,
     site: &mut S,
@@ -53,7 +54,7 @@ fn sends<S: Site, L: Link>(
 }
 
 // Acknowledges the numbers from 1 on, so many, in order, from one port.
-fn acknowledges(alloc: Global, last: u32) -> Result<Vec<Answer>, AllocError> {
+pub(crate) fn acknowledges(alloc: Global, last: u32) -> Result<Vec<Answer>, AllocError> {
     let mut script = Vec::new(alloc);
     for number in 1..=last {
         script.push(Answer::Datagram {
@@ -64,48 +65,39 @@ fn acknowledges(alloc: Global, last: u32) -> Result<Vec<Answer>, AllocError> {
     Ok(script)
 }
 
-// The ports of a server that a client's datagrams come to: the herald's port, and that of one session.
-#[derive(Drop)]
-struct Replay<'a> {
-    trace: &'a [LinkEvent],
-    at: usize,
+// Whether a datagram of so many bytes, which begins with these, went to this port.
+fn was_sent(trace: &[LinkEvent], to: u16, len: usize, front: &[u8]) -> bool {
+    trace.iter().any(|event| match event {
+        LinkEvent::Sent { port, bytes } => {
+            *port == to && bytes.len() == len && bytes.as_slice().starts_with(front)
+        }
+        _ => false,
+    })
 }
 
-impl Ports for Replay<'_> {
-    ghost use Rattle.std.specs.Prelude.{None};
-
-    ghost seen = { λ r. record { told = None; faults = 0 } };
-
-    fn listen(&mut self) -> Result<(), Failed> {
-        Ok(())
-    }
-
-    fn take(&mut self, out: &mut [u8; 8192]) -> Result<Taken, Failed> {
-        let event = self.trace.get(self.at);
-        self.at = self.at.saturating_add(1);
-        match event {
-            Some(LinkEvent::Sent { port, bytes }) => {
-                let len = bytes.len().min(8192);
-                out[..len].copy_from_slice(&bytes[..len]);
-                Ok(Taken::Got {
-                    slot: if *port == 20023 { 0 } else { 1 },
-                    peer: Peer {
-                        address: 0x7f00_0001,
-                        port: 20024,
-                    },
-                    len,
-                })
-            }
-            _ => Ok(Taken::Silent),
-        }
-    }
-
-    fn open_slot(&mut self, _slot: u16) -> Result<(), Failed> {
-        Ok(())
-    }
-
-    fn answer(&mut self, _slot: u16, _peer: Peer, _bytes: &[u8; 4]) -> Result<(), Failed> {
-        Ok(())
+// The herald, the last chunk and the end were sent.
+fn was_sent_whole(rt: &impl Abort, trace: &[LinkEvent]) {
+    assert_eq!(rt; trace.len(), 23);
+    for (port, len, front) in [
+        (
+            20023,
+            24,
+            b"\0\0\0\x01\0\0\0\x01\0\0\0\0\0\0\0\0\0\0\0\0\0\0\0\0".as_slice(),
+        ),
+        (
+            40001,
+            4120,
+            b"\0\0\0\x03\0\0\0\x09\0\0\0\0\0\0\x70\0\0\0\x10\0\0\0\0\0".as_slice(),
+        ),
+        (
+            40001,
+            24,
+            b"\0\0\0\x02\0\0\0\x0b\0\0\0\0\0\0\0\0\0\0\0\0\0\0\0\0".as_slice(),
+        ),
+    ]
+    .as_slice()
+    {
+        assert!(rt; was_sent(trace, *port, *len, *front), "{len}");
     }
 }
 
@@ -116,7 +108,7 @@ fn receives<S: Site>(
     site: &mut S,
     trace: &[LinkEvent],
 ) -> Result<(), Fail> {
-    let mut ports = Replay { trace, at: 0 };
+    let mut ports = Replay::new(trace, 1, 0);
     let (words, text) = (["netdumpd", "1"], "received vmcore.0 32768\n");
     goes(
         rt,
@@ -153,6 +145,7 @@ fn a_dump_that_is_sent_is_received_whole(rt: HostRuntime) -> Result<(), Fail> {
             })
         )
     );
+    was_sent_whole(&rt, link.trace());
     receives(&rt, alloc, &mut site, link.trace())
 }
 
