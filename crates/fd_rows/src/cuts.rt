@@ -95,10 +95,10 @@ fn saves_what_stands(
 }
 
 fn stops_anywhere(rt: &impl Abort, alloc: Global, case: Case) -> Result<(), Fail> {
-    let (block, stood, _, _, whole) = case;
+    let (block, stood, words, _, whole) = case;
     let setting = Setting::new(rt, alloc, block)?;
     let new = setting.dumped(rt, alloc, "dump b.img", "dumped 28672\n")?;
-    let mut site = setting.site(rt, alloc, stood, 0)?;
+    let mut site = setting.site(rt, alloc, stood, words, 0)?;
     let before = bytes_of(rt, alloc, &mut site)?;
     for sectors in 0..=whole {
         put_back(rt, &mut site, &before);

@@ -3,7 +3,7 @@
 
 use crate::partitions::{check_line, run, words_in};
 use crate::reads::amd64_vmcore;
-use crate::stands::{Setting, bytes_of, holds, judged};
+use crate::stands::{Setting, bytes_of, has_word, holds, judged};
 use crate::walks::OF_AMD64;
 use fd_fake::{MemSink, MemSite};
 use std::alloc::Global;
@@ -53,7 +53,7 @@ static DUMPS: [Case; 6] = [
     ("live cleared", "dump -i b.img", "dumped 28672\n", "new"),
 ];
 
-static READS: [Case; 6] = [
+static READS: [Case; 4] = [
     ("live", "read vmcore.0 0xffffffd000001ff8 17", READ, "live"),
     (
         "live",
@@ -63,6 +63,9 @@ static READS: [Case; 6] = [
     ),
     ("live", "pages vmcore.0", PAGES, "live"),
     ("live", "pages vmcore.1", OF_AMD64, "live"),
+];
+
+static DRILLS: [Case; 2] = [
     (
         "none live cleared",
         "drill a.img 66 0xffffffd000001000 8",
@@ -84,11 +87,13 @@ struct Start {
     amd64: Vec<u8>,
 }
 
-fn start(rt: &impl Abort, alloc: Global) -> Result<Start, Fail> {
-    Ok(Start {
-        setting: Setting::new(rt, alloc, 512)?,
-        amd64: amd64_vmcore(rt, alloc)?,
-    })
+impl Start {
+    fn new(rt: &impl Abort, alloc: Global) -> Result<Start, Fail> {
+        Ok(Start {
+            setting: Setting::new(rt, alloc, 512)?,
+            amd64: amd64_vmcore(rt, alloc)?,
+        })
+    }
 }
 
 // What stands before the command.
@@ -96,34 +101,44 @@ fn first(stands: &str) -> &str {
     stands.split(' ').next().unwrap_or("")
 }
 
-// The site with two dumps that were saved, and the next number.
+// The site with a dump that was saved, one of amd64 where it is read, and the next number.
 fn with_saved(
     rt: &impl Abort,
     alloc: Global,
     start: &Start,
-    stood: &str,
+    case: Case,
     failing: u64,
 ) -> Result<MemSite, Fail> {
-    let mut site = start.setting.site(rt, alloc, stood, failing)?;
+    let (stands, words, _, _) = case;
+    let mut site = start
+        .setting
+        .site(rt, alloc, first(stands), words, failing)?;
     site.preset_file("vmcore.0", start.setting.dump().to_vec(alloc)?)?;
-    site.preset_file("vmcore.1", start.amd64.as_slice().to_vec(alloc)?)?;
+    if has_word(words, "vmcore.1") {
+        site.preset_file("vmcore.1", start.amd64.as_slice().to_vec(alloc)?)?;
+    }
     site.preset_file("bounds", b"3\n".to_vec(alloc)?)?;
     Ok(site)
 }
 
-// What is judged afterwards: a dump that stands is whole. The saved ones are as they were.
+// What is judged afterwards: a dump that stands is whole, and one that was saved and cleared stands whole in its file. The one
+// that was saved before is as it was.
 fn left_behind(
     rt: &impl Abort,
     alloc: Global,
     site: &mut MemSite,
     start: &Start,
+    case: Case,
 ) -> Result<&'static str, Fail> {
+    let (stood, _, text, _) = case;
     let stands = judged(alloc, site)?;
     if stands == "live" {
         assert!(rt; *bytes_of(rt, alloc, site)? == *start.setting.live);
     }
+    if stands == "cleared" && first(stood) != "cleared" && text.starts_with("saved") {
+        holds(rt, alloc, site, "vmcore.3", start.setting.dump())?;
+    }
     holds(rt, alloc, site, "vmcore.0", start.setting.dump())?;
-    holds(rt, alloc, site, "vmcore.1", &start.amd64)?;
     assert_eq!(rt; site.starved(), 0);
     Ok(stands)
 }
@@ -150,8 +165,8 @@ fn fails_at(
     case: Case,
     failing: u64,
 ) -> Result<&'static str, Fail> {
-    let (stands, words, _, _) = case;
-    let mut site = with_saved(rt, alloc, start, first(stands), failing)?;
+    let (_, words, _, _) = case;
+    let mut site = with_saved(rt, alloc, start, case, failing)?;
     let mut out = MemSink::new(alloc, Vec::new(alloc));
     let list = words_in(alloc, words)?;
     assert_eq!(rt;
@@ -160,16 +175,20 @@ fn fails_at(
         "{words} {failing}"
     );
     is_cut(rt, out.bytes(), case);
-    left_behind(rt, alloc, &mut site, start)
+    left_behind(rt, alloc, &mut site, start, case)
 }
 
 // How many calls the command takes.
 fn calls_of(rt: &impl Abort, alloc: Global, start: &Start, case: Case) -> Result<u64, Fail> {
-    let (stands, words, text, left) = case;
-    let mut site = with_saved(rt, alloc, start, first(stands), 0)?;
+    let (_, words, text, left) = case;
+    let mut site = with_saved(rt, alloc, start, case, 0)?;
     check_line(rt, alloc, &mut site, words, 0, text)?;
     let calls = site.calls();
-    assert_eq!(rt; left_behind(rt, alloc, &mut site, start)?, left, "{words}");
+    assert_eq!(rt;
+        left_behind(rt, alloc, &mut site, start, case)?,
+        left,
+        "{words}"
+    );
     Ok(calls)
 }
 
@@ -191,7 +210,7 @@ fn each_call_fails(rt: &impl Abort, alloc: Global, start: &Start, case: Case) ->
 
 // Each call of each command fails in turn.
 fn each_fails(rt: &impl Abort, alloc: Global, cases: &[Case]) -> Result<(), Fail> {
-    let start = start(rt, alloc)?;
+    let start = Start::new(rt, alloc)?;
     for case in cases {
         each_call_fails(rt, alloc, &start, *case)?;
     }
@@ -209,10 +228,15 @@ fn whichever_call_of_a_dump_fails_the_old_one_or_none_stands(rt: HostRuntime) ->
 }
 
 #[test]
-fn whichever_call_of_a_read_or_a_drill_fails_none_or_a_whole_dump_stands(
+fn whichever_call_of_a_read_fails_it_is_cut(rt: HostRuntime) -> Result<(), Fail> {
+    each_fails(&rt, rt.alloc(), READS.as_slice())
+}
+
+#[test]
+fn whichever_call_of_a_drill_fails_none_or_a_whole_dump_stands(
     rt: HostRuntime,
 ) -> Result<(), Fail> {
-    each_fails(&rt, rt.alloc(), READS.as_slice())
+    each_fails(&rt, rt.alloc(), DRILLS.as_slice())
 }
 
 // The command where one piece of its text isn't taken: it has done its work. Answers whether there was no such piece.
@@ -223,12 +247,16 @@ fn prints_up_to(
     case: Case,
     failing: u64,
 ) -> Result<bool, Fail> {
-    let (stands, words, text, left) = case;
-    let mut site = with_saved(rt, alloc, start, first(stands), 0)?;
+    let (_, words, text, left) = case;
+    let mut site = with_saved(rt, alloc, start, case, 0)?;
     let mut out = MemSink::new(alloc, vec![in alloc; failing]?);
     let list = words_in(alloc, words)?;
     let status = run(alloc, &list, &mut site, &mut out);
-    assert_eq!(rt; left_behind(rt, alloc, &mut site, start)?, left, "{words}");
+    assert_eq!(rt;
+        left_behind(rt, alloc, &mut site, start, case)?,
+        left,
+        "{words}"
+    );
     if status == 0 {
         assert_eq!(rt; out.bytes(), text.as_bytes());
         return Ok(true);
@@ -253,8 +281,15 @@ fn each_piece_fails(rt: &impl Abort, alloc: Global, start: &Start, case: Case) -
 #[test]
 fn what_is_not_printed_was_done(rt: HostRuntime) -> Result<(), Fail> {
     let alloc = rt.alloc();
-    let start = start(&rt, alloc)?;
-    for cases in [SAVES.as_slice(), DUMPS.as_slice(), READS.as_slice()].as_slice() {
+    let start = Start::new(&rt, alloc)?;
+    for cases in [
+        SAVES.as_slice(),
+        DUMPS.as_slice(),
+        READS.as_slice(),
+        DRILLS.as_slice(),
+    ]
+    .as_slice()
+    {
         for case in *cases {
             each_piece_fails(&rt, alloc, &start, *case)?;
         }

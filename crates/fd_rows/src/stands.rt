@@ -21,6 +21,11 @@ pub(crate) struct Setting {
     images: (Vec<u8>, Vec<u8>),
 }
 
+/// Whether one of the words is this one.
+pub(crate) fn has_word(words: &str, wanted: &str) -> bool {
+    words.split(' ').any(|word| word == wanted)
+}
+
 /// What stands on a partition, from the first byte on that a dump writes.
 pub(crate) fn bytes_of(
     rt: &impl Abort,
@@ -51,12 +56,14 @@ impl Setting {
         Ok(setting)
     }
 
-    /// A partition on which nothing stands, the dump is live, or cleared. One call fails; the 0th never comes.
+    /// A partition on which nothing stands, the dump is live, or cleared, with the images that the words name. One call fails;
+    /// the 0th never comes.
     pub(crate) fn site(
         &self,
         rt: &impl Abort,
         alloc: Global,
         stood: &str,
+        words: &str,
         failing: u64,
     ) -> Result<MemSite, Fail>
         ensures { IfOk result (λ site. site.disk.journal ≡ []) }
@@ -70,8 +77,12 @@ impl Setting {
         if stood == "cleared" {
             site.preset_part(106496 - u64::from(self.block), b"Cleared Kernel Dump\0");
         }
-        site.preset_file("a.img", self.images.0.as_slice().to_vec(alloc)?)?;
-        site.preset_file("b.img", self.images.1.as_slice().to_vec(alloc)?)?;
+        if has_word(words, "a.img") {
+            site.preset_file("a.img", self.images.0.as_slice().to_vec(alloc)?)?;
+        }
+        if has_word(words, "b.img") {
+            site.preset_file("b.img", self.images.1.as_slice().to_vec(alloc)?)?;
+        }
         Ok(site)
     }
 
@@ -83,7 +94,7 @@ impl Setting {
         words: &str,
         text: &str,
     ) -> Result<Vec<u8>, Fail> {
-        let mut site = self.site(rt, alloc, "none", 0)?;
+        let mut site = self.site(rt, alloc, "none", words, 0)?;
         check_line(rt, alloc, &mut site, words, 0, text)?;
         bytes_of(rt, alloc, &mut site)
     }
