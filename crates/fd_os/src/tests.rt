@@ -7,6 +7,7 @@ use std::net::Net;
 use std::process::Abort;
 use std::rt::Clock;
 use std::test::Fail;
+use std::time::{Duration, Instant};
 
 // Writes the partition's second sector and then both, and reads them back.
 fn use_partition<S: Site>(rt: &impl Abort, site: &mut S) -> Result<(), Failed> {
@@ -63,6 +64,26 @@ fn a_directory_is_read_and_written(rt: HostRuntime) -> Result<(), Fail> {
     use_site(&rt, &mut site)?;
     assert_eq!(rt; fs::metadata(&rt, "site/text")?.len(), 4);
     fs::remove_dir_all(&rt, "site")?;
+    Ok(())
+}
+
+// Reads the partition's second sector, which isn't there any more, and then writes the first one, which is.
+fn use_cut_partition<S: Site>(rt: &impl Abort, site: &mut S) {
+    assert_eq!(rt; site.size(), 1024);
+    let mut sector = [0; 512];
+    assert!(rt; site.read_part(512, &mut sector).is_err());
+    assert!(rt; site.write_part(0, &sector).is_err());
+}
+
+#[test]
+fn a_partition_that_failed_is_let_go(rt: HostRuntime) -> Result<(), Fail> {
+    fs::create_dir_all(&rt, "cut")?;
+    fs::write(&rt, "cut/dumpdev", [1; 1024])?;
+    let mut site = DirSite::open(&rt, "cut", 512)?;
+    fs::write(&rt, "cut/dumpdev", [1; 512])?;
+    use_cut_partition(&rt, &mut site);
+    assert!(rt; fs::read(&rt, "cut/dumpdev")?.iter().all(|byte| *byte == 1));
+    fs::remove_dir_all(&rt, "cut")?;
     Ok(())
 }
 
@@ -140,6 +161,111 @@ fn serve<R: Net + Clock + Eprint + AllocGlobal + Abort>(
 ) -> Result<(), Fail> {
     let mut link = UdpLink::new(rt);
     exchange(rt, ports, &mut link)
+}
+
+// Sends a datagram of one byte to a port for each of the numbers.
+fn send_numbers<L: Link>(link: &mut L, port: u16, count: u8) -> Result<(), Failed> {
+    for number in 0..count {
+        link.send(port, &[number])?;
+    }
+    Ok(())
+}
+
+// Takes so many datagrams, and answers each from its slot with its number. Gives how many were taken at the slot.
+fn answer_numbers<P: Ports>(ports: &mut P, count: u8, slot: u16) -> Result<u32, Failed> {
+    let mut out = [0; 8192];
+    let mut of_slot = 0u32;
+    for _ in 0..count {
+        match ports.take(&mut out)? {
+            Taken::Got { slot: at, peer, .. } => {
+                ports.answer(at, peer, &[out[0], 0, 0, 0])?;
+                of_slot = of_slot.saturating_add(u32::from(at == slot));
+            }
+            Taken::Silent => return Err(Failed),
+        }
+    }
+    Ok(of_slot)
+}
+
+// Polls so many answers, in the order of their numbers.
+fn hear_numbers<L: Link>(rt: &impl Abort, link: &mut L, count: u8) -> Result<(), Failed> {
+    let mut out = [0; 64];
+    for number in 0..count {
+        assert!(rt; matches!(link.poll(&mut out)?, Polled::Got { len: 4, .. }));
+        assert_eq!(rt; out[0], number);
+    }
+    Ok(())
+}
+
+// A client sends as many datagrams as may be unanswered, and one more when they were answered.
+fn exchange_many<R: Net + Clock + Eprint + AllocGlobal + Abort>(
+    rt: &R,
+    ports: &mut UdpPorts<'_, R>,
+) -> Result<(), Fail> {
+    let mut link = UdpLink::new(rt);
+    ports.listen()?;
+    link.open(LOOPBACK)?;
+    send_numbers(&mut link, ports.port(0)?, 16)?;
+    assert_eq!(rt; answer_numbers(ports, 16, 0)?, 16);
+    link.send(ports.port(0)?, &[16])?;
+    assert_eq!(rt; answer_numbers(ports, 1, 0)?, 1);
+    hear_numbers(rt, &mut link, 17)?;
+    Ok(())
+}
+
+#[test]
+fn answers_that_came_before_a_poll_are_kept_in_order(rt: HostRuntime) -> Result<(), Fail> {
+    let mut ports = UdpPorts::with_herald(&rt, 0);
+    exchange_many(&rt, &mut ports)
+}
+
+// A port has more datagrams than its turn is long, another one.
+fn take_in_turns<R: Net + Clock + Eprint + AllocGlobal + Abort>(
+    rt: &R,
+    ports: &mut UdpPorts<'_, R>,
+) -> Result<(), Fail> {
+    let mut many = UdpLink::new(rt);
+    let mut one = UdpLink::new(rt);
+    ports.listen()?;
+    ports.open_slot(1)?;
+    many.open(LOOPBACK)?;
+    one.open(LOOPBACK)?;
+    send_numbers(&mut many, ports.port(0)?, 16)?;
+    send_numbers(&mut one, ports.port(0)?, 4)?;
+    one.send(ports.port(1)?, b"abc")?;
+    assert_eq!(rt; answer_numbers(ports, 17, 1)?, 1);
+    assert_eq!(rt; answer_numbers(ports, 4, 0)?, 4);
+    Ok(())
+}
+
+#[test]
+fn a_port_that_speaks_on_has_no_more_than_its_turn(rt: HostRuntime) -> Result<(), Fail> {
+    let mut ports = UdpPorts::with_herald(&rt, 0);
+    take_in_turns(&rt, &mut ports)
+}
+
+// As many datagrams as may be unanswered are given up together.
+fn give_up<R: Net + Clock + Eprint + AllocGlobal + Abort>(
+    rt: &R,
+    ports: &mut UdpPorts<'_, R>,
+) -> Result<(), Fail> {
+    let mut link = UdpLink::new(rt);
+    ports.listen()?;
+    link.open(LOOPBACK)?;
+    send_numbers(&mut link, ports.port(0)?, 16)?;
+    let began = Instant::now(rt)?;
+    link.send(ports.port(0)?, b"abc")?;
+    let waited = began.elapsed(rt)?;
+    assert!(rt; waited >= Duration::from_millis(800));
+    send_numbers(&mut link, ports.port(0)?, 4)?;
+    assert!(rt; began.elapsed(rt)? < waited.saturating_mul(2));
+    Ok(())
+}
+
+#[test]
+fn a_silent_server_is_waited_for_once(rt: HostRuntime) -> Result<(), Fail> {
+    let mut ports = UdpPorts::with_herald(&rt, 0);
+    give_up(&rt, &mut ports)
 }
 
 #[test]

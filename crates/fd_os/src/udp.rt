@@ -8,11 +8,12 @@ use std::rt::Clock;
 use std::time::{Duration, Instant};
 use std::{io, thread};
 
-/// How many looks a wait has at most: a nap between two of them takes a microsecond at least, and most often some fifty.
-pub(crate) const MOST_LOOKS: u32 = 900;
+/// How many looks a wait has at most. It ends before by the clock: a nap between two of them takes a microsecond at least,
+/// and most often some fifty.
+pub(crate) const MOST_LOOKS: u32 = 1000;
 
-/// How many of the first looks follow one another without a nap, since an answer most often comes at once.
-const EAGER_LOOKS: u32 = 16;
+/// How many of the first looks follow one another without a nap. More of them take the processor from the one who is to answer.
+const EAGER_LOOKS: u32 = 3;
 
 /// Where a datagram came from, and how many of its bytes were given.
 #[derive(Clone, Copy)]
@@ -55,15 +56,40 @@ pub(crate) fn look(socket: &UdpSocket, out: &mut [u8]) -> io::Result<Option<Arri
     }
 }
 
-/// Goes on to the next look of a wait that began then, if there is one: in all a wait takes less than a millisecond. The first
-/// looks follow at once, later ones behind the shortest sleep that the system has. A sleep of a millisecond would leave
-/// datagrams lying, and a timeout of the socket takes eight.
-pub(crate) fn nap<R: Clock>(rt: &R, began: &Instant, looks: u32) -> io::Result<bool> {
-    if looks < EAGER_LOOKS {
-        return Ok(true);
+/// A wait for what a look didn't find.
+#[derive(Drop)]
+pub(crate) struct Wait {
+    began: Option<Instant>,
+    looks: u32,
+}
+
+impl Wait {
+    pub(crate) fn new() -> Wait {
+        Wait {
+            began: None,
+            looks: 0,
+        }
     }
-    thread::sleep(rt, Duration::from_micros(1));
-    Ok(began.elapsed(rt)? < Duration::from_micros(900))
+
+    /// Goes on to the next look, if there is one, behind one that found nothing: in all a wait takes less than a millisecond.
+    /// The first looks follow at once, later ones behind the shortest sleep that the system has. A sleep of a millisecond
+    /// would leave datagrams lying, and a timeout of the socket takes eight.
+    pub(crate) fn goes_on<R: Clock>(&mut self, rt: &R) -> io::Result<bool> {
+        self.looks = self.looks.saturating_add(1);
+        if self.looks < EAGER_LOOKS {
+            return Ok(true);
+        }
+        match &self.began {
+            Some(began) => {
+                if began.elapsed(rt)? >= Duration::from_micros(900) {
+                    return Ok(false);
+                }
+            }
+            None => self.began = Some(Instant::now(rt)?),
+        }
+        thread::sleep(rt, Duration::from_micros(1));
+        Ok(true)
+    }
 }
 
 /// Sends a datagram. Where the system has no room for it, tries again as long as a wait goes on.
@@ -74,14 +100,14 @@ pub(crate) fn send<R: Clock>(
     address: u32,
     port: u16,
 ) -> io::Result<()> {
-    let began = Instant::now(rt)?;
-    for looks in 0..MOST_LOOKS {
+    let mut wait = Wait::new();
+    for _ in 0..MOST_LOOKS {
         match socket.send_to(bytes, SocketAddrV4::new(Ipv4Addr::from_bits(address), port)) {
             Ok(_) => return Ok(()),
             Err(why) if would_wait(&why) => {}
             Err(why) => return Err(why),
         }
-        if !nap(rt, &began, looks)? {
+        if !wait.goes_on(rt)? {
             break;
         }
     }

@@ -4,13 +4,12 @@ ghost use Rattle.std.specs.Prelude.{◌≡◌, ◌≤◌, None, IfOk};
 ghost use Rattle.fd_site.specs.Trace.{IsPolled};
 
 use crate::fault::counted;
-use crate::udp::{MOST_LOOKS, bound, look, nap, not_open, send};
+use crate::udp::{MOST_LOOKS, Wait, bound, look, not_open, send};
 use fd_site::{Failed, Link, Polled};
 use std::collections::VecDeque;
 use std::io;
 use std::net::{Net, UdpSocket};
 use std::rt::Clock;
-use std::time::Instant;
 
 /// The port of netdump's client (`sys/netinet/netdump/netdump.h`, `NETDUMP_ACKPORT`).
 const CLIENT_PORT: u16 = 20024;
@@ -18,11 +17,15 @@ const CLIENT_PORT: u16 = 20024;
 /// How many datagrams are sent at most that nothing was heard of. A socket holds some twenty that aren't read.
 const MOST_UNANSWERED: u32 = 16;
 
-/// How many datagrams are kept at most that came before a poll.
+/// How many are heard of at once when none more may be sent, so that a nap of either side is for several of them.
+const BUNCH: u32 = 8;
+
+/// How many datagrams are kept that came before a poll, until no more are waited for.
 const MOST_HEARD: usize = 64;
 
-/// How many waits a datagram is expected to be heard of. A server that another program keeps from running answers later.
-const PATIENCE: u32 = 8;
+/// For how many waits, about a second in all, an answer is expected. A server that another program keeps from running answers
+/// late, and isn't to find more than a socket holds.
+const PATIENCE: u32 = 1000;
 
 /// A server by UDP. Datagrams of another address are taken for silence, and a poll waits less than a millisecond.
 #[derive(Drop)]
@@ -98,27 +101,39 @@ impl Line {
 
     // Waits for a datagram of the server.
     fn wait<R: Clock>(&mut self, rt: &R) -> io::Result<Option<Heard>> {
-        let began = Instant::now(rt)?;
-        for looks in 0..MOST_LOOKS {
+        let mut wait = Wait::new();
+        for _ in 0..MOST_LOOKS {
             if let Some(heard) = self.look()? {
                 return Ok(Some(heard));
             }
-            if !nap(rt, &began, looks)? {
+            if !wait.goes_on(rt)? {
                 break;
             }
         }
         Ok(None)
     }
 
-    // Waits until one of the datagrams that were sent is heard of, or gives one up.
+    // Waits until the server is heard of, and takes a bunch. After a long silence nothing is expected any more of what was
+    // sent.
     fn make_room<R: Clock>(&mut self, rt: &R) -> io::Result<()> {
         for _ in 0..PATIENCE {
             if let Some(heard) = self.wait(rt)? {
                 self.heard.push_back(heard)?;
-                return Ok(());
+                return self.take_bunch(rt);
             }
         }
-        self.unanswered = self.unanswered.saturating_sub(1);
+        self.unanswered = 0;
+        Ok(())
+    }
+
+    // Takes what else is to be heard of a bunch, as long as no wait for it is silent.
+    fn take_bunch<R: Clock>(&mut self, rt: &R) -> io::Result<()> {
+        for _ in 1..BUNCH {
+            match self.wait(rt)? {
+                Some(heard) => self.heard.push_back(heard)?,
+                None => break,
+            }
+        }
         Ok(())
     }
 

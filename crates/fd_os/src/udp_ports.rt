@@ -4,20 +4,23 @@ ghost use Rattle.std.specs.Prelude.{◌≡◌, ◌≤◌, None, IfOk};
 ghost use Rattle.fd_site.specs.Trace.{IsTaken};
 
 use crate::fault::{counted, lost};
-use crate::udp::{MOST_LOOKS, bound, look, nap, not_open, send};
+use crate::udp::{MOST_LOOKS, Wait, bound, look, not_open, send};
 use fd_site::{Failed, Peer, Ports, Taken};
 use std::io;
 use std::io::{Error, ErrorKind};
 use std::net::{Net, UdpSocket};
 use std::rt::Clock;
-use std::time::Instant;
 
 /// The port of netdump's server (`sys/netinet/netdump/netdump.h`, `NETDUMP_PORT`).
 const HERALD_PORT: u16 = 20023;
 
+/// How many datagrams are taken in a row from one port at most, so that no other starves.
+const MOST_IN_A_ROW: u32 = 16;
+
 /// The ports of a server by UDP: the herald's, and one that is free for each slot. One look waits less than a millisecond
-/// for all of them, and each has its turn. An answer that the system can't send, as to a peer that can't be reached, is
-/// lost as any datagram may be, and the server goes on: a forged sender doesn't end it. The first is said.
+/// for all of them, begins at the port that spoke last, and gives each its turn. An answer that the system can't send, as
+/// to a peer that can't be reached, is lost as any datagram may be, and the server goes on: a forged sender doesn't end it.
+/// The first is said.
 #[derive(Drop)]
 pub struct UdpPorts<'a, R: Net + Clock + Eprint + AllocGlobal> {
     rt: &'a R,
@@ -65,8 +68,9 @@ impl<'a, R: Net + Clock + Eprint + AllocGlobal> UdpPorts<'a, R> {
 #[derive(Drop)]
 struct Sockets {
     slots: Vec<Slot>,
-    // Counts the looks at them, which go round.
-    looks: usize,
+    // Whose turn it is, counted on from one to the next and round, and how many datagrams it brought.
+    turn: usize,
+    in_a_row: u32,
 }
 
 // The port of a slot.
@@ -83,7 +87,11 @@ impl Sockets {
         let socket = bound(rt, herald)?;
         let mut slots = Vec::new(rt.alloc());
         slots.push(Slot { number: 0, socket })?;
-        Ok(Sockets { slots, looks: 0 })
+        Ok(Sockets {
+            slots,
+            turn: 0,
+            in_a_row: 0,
+        })
     }
 
     // The socket of a slot.
@@ -110,24 +118,46 @@ impl Sockets {
         Ok(())
     }
 
+    // Ends the turn of a port.
+    fn pass(&mut self) {
+        self.turn = self.turn.wrapping_add(1);
+        self.in_a_row = 0;
+    }
+
+    // Looks at the port whose turn it is, which ends where it brings nothing, or has brought enough.
+    fn look_at_one(&mut self, out: &mut [u8; 8192]) -> io::Result<Taken>
+        ensures { IfOk result IsTaken }
+    {
+        let count = self.slots.len().max(1);
+        if let Some(open) = self.slots.get(self.turn % count) {
+            if let Some(arrived) = look(&open.socket, out)? {
+                let taken = Taken::Got {
+                    slot: open.number,
+                    peer: Peer {
+                        address: arrived.address,
+                        port: arrived.port,
+                    },
+                    len: arrived.len,
+                };
+                self.in_a_row = self.in_a_row.saturating_add(1);
+                if self.in_a_row >= MOST_IN_A_ROW {
+                    self.pass();
+                }
+                return Ok(taken);
+            }
+        }
+        self.pass();
+        Ok(Taken::Silent)
+    }
+
     // Looks at each port once, in turn.
     fn look(&mut self, out: &mut [u8; 8192]) -> io::Result<Taken>
         ensures { IfOk result IsTaken }
     {
-        let count = self.slots.len();
-        for _ in 0..count {
-            self.looks = self.looks.wrapping_add(1);
-            if let Some(open) = self.slots.get(self.looks % count) {
-                if let Some(arrived) = look(&open.socket, out)? {
-                    return Ok(Taken::Got {
-                        slot: open.number,
-                        peer: Peer {
-                            address: arrived.address,
-                            port: arrived.port,
-                        },
-                        len: arrived.len,
-                    });
-                }
+        for _ in 0..self.slots.len() {
+            let taken = self.look_at_one(out)?;
+            if !matches!(taken, Taken::Silent) {
+                return Ok(taken);
             }
         }
         Ok(Taken::Silent)
@@ -137,13 +167,13 @@ impl Sockets {
     fn wait<R: Clock>(&mut self, rt: &R, out: &mut [u8; 8192]) -> io::Result<Taken>
         ensures { IfOk result IsTaken }
     {
-        let began = Instant::now(rt)?;
-        for looks in 0..MOST_LOOKS {
+        let mut wait = Wait::new();
+        for _ in 0..MOST_LOOKS {
             let taken = self.look(out)?;
             if !matches!(taken, Taken::Silent) {
                 return Ok(taken);
             }
-            if !nap(rt, &began, looks)? {
+            if !wait.goes_on(rt)? {
                 break;
             }
         }
