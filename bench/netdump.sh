@@ -1,9 +1,10 @@
 #!/usr/bin/env bash
 # `netdump` of a dump of 56 MB to `netdumpd` over this machine's own network, beside atftp, which puts the same bytes to its
-# server in blocks of 4096 with a window of 8. The time is that of the clock, from the client's start to its end, since both wait
-# for each other; the server's peak memory is to be one for all sizes. Prints the median of the runs, the slowest one, and the
-# ratio of the rates. The first argument is how many runs are timed (20 if it is left out). It needs root for a network of its
-# own (`unshare`, `ip`), atftp and atftpd, and GNU time as `/usr/bin/time` for the memory.
+# server in blocks of 4096 with a window of 8, and beside atftp whose file is then synced, as netdumpd syncs its own before it
+# acknowledges the end. The time is that of the clock, from the client's start to its end, since both wait for each other; the
+# server's peak memory is to be one for all sizes. Prints the median of the runs, the slowest one, and the ratios of the rates.
+# The first argument is how many runs are timed (20 if it is left out); TMPDIR says where the files lie. It needs root for a
+# network of its own (`unshare`, `ip`), atftp and atftpd, and GNU time as `/usr/bin/time` for the memory.
 set -eu
 top=$(cd "$(dirname "$0")/.." && pwd)
 runs=${1:-20}
@@ -14,6 +15,8 @@ ip link set lo up
 folder=$(mktemp -d)
 trap 'kill $(jobs -p) 2>/dev/null; rm -rf "$folder"' EXIT
 program=$top/crates/fd_tool/out/fd_tool
+# As the script `crashway` starts the program: with large pages for its memory.
+export GLIBC_TUNABLES=glibc.malloc.hugetlb=1
 mkdir "$folder/client" "$folder/server" "$folder/tftp"
 chmod 777 "$folder" "$folder/tftp"
 
@@ -41,17 +44,22 @@ one_dump() {
     seconds "$program" "$folder/client" 512 netdump "$1" 127.0.0.1 >>"$folder/$2"
     wait "$server"
 }
+atftp_put() {
+    atftp --option 'blksize 4096' --option 'windowsize 8' --put --local-file "$folder/body" --remote-file body 127.0.0.1 6969
+}
+atftp_sync() { atftp_put && sync -d "$folder/tftp/body"; }
 one_put() {
     rm -f "$folder/tftp/body"
-    seconds atftp --option 'blksize 4096' --option 'windowsize 8' --put --local-file "$folder/body" --remote-file body 127.0.0.1 6969 >>"$folder/atftp"
+    seconds "$1" >>"$folder/$1"
+    cmp "$folder/tftp/body" "$folder/body"
 }
 
 for ((run = 0; run < runs; run++)); do
     one_dump a.img netdump
     cmp "$folder/server/vmcore.0" "$folder/body"
     peak=$(tail -n 1 "$folder/peak")
-    one_put
-    cmp "$folder/tftp/body" "$folder/body"
+    one_put atftp_put
+    one_put atftp_sync
 done
 one_dump @arm64:0 small
 echo "the server's peak memory: $peak KiB for 56 MB, $(tail -n 1 "$folder/peak") KiB for 61 KB"
@@ -60,9 +68,12 @@ echo "the server's peak memory: $peak KiB for 56 MB, $(tail -n 1 "$folder/peak")
 figures() {
     sort -n "$folder/$1" | awk -v name="$1" '{ all[NR] = $1 } END {
         middle = (all[int((NR + 1) / 2)] + all[int(NR / 2) + 1]) / 2
-        printf "%-8s median %.0f ms, slowest %.0f ms, %.0f MB/s\n", name, middle * 1000, all[NR] * 1000, 56.434688 / middle
+        printf "%-10s median %.0f ms, slowest %.0f ms, %.0f MB/s\n", name, middle * 1000, all[NR] * 1000, 56.434688 / middle
         print middle >"'"$folder"'/" name ".median" }'
 }
 figures netdump
-figures atftp
-awk -v a="$(cat "$folder/atftp.median")" -v b="$(cat "$folder/netdump.median")" 'BEGIN { printf "netdump has %.2f of the rate of atftp\n", a / b }'
+for put in atftp_put atftp_sync; do
+    figures "$put"
+    awk -v name="$put" -v put="$(cat "$folder/$put.median")" -v dump="$(cat "$folder/netdump.median")" \
+        'BEGIN { printf "netdump has %.2f of the rate of %s\n", put / dump, name }'
+done
