@@ -1,6 +1,7 @@
 //! Partitions of 106496 bytes on which nothing stands, the dump of riscv's image, or that dump when it was cleared.
 
-ghost use Rattle.std.specs.Prelude.{◌≡◌, [], IfOk};
+ghost use Rattle.std.specs.Prelude.{◌≡◌, ◌≤◌, [], IfOk, IsTrue, length};
+ghost use Rattle.fd_site.specs.Name.{is_good_name};
 
 use crate::image_files::{riscv_image, smaller_image};
 use crate::partitions::{check_line, failing_partition, read_sectors, run, words_of};
@@ -44,6 +45,41 @@ pub(crate) fn put_back(rt: &impl Abort, site: &mut MemSite, bytes: &[u8]) {
     assert!(rt; site.write_part(FROM, bytes).is_ok());
 }
 
+// Puts the dump there as it stood, if it did.
+fn preset_dump(site: &mut MemSite, block: u32, live: &[u8], stood: &str)
+    requires fresh { site.old.disk.journal ≡ [] }
+    requires size { length site.old.disk.base_part ≡ 106496 }
+    requires live { length live.now ≡ 40960 }
+    requires least { 512 ≤ block }
+    requires most { block ≤ 4096 }
+    ensures journal { site.new.disk.journal ≡ [] }
+{
+    if stood != "none" {
+        site.preset_part(FROM, live);
+    }
+    if stood == "cleared" {
+        site.preset_part(106496 - u64::from(block), b"Cleared Kernel Dump\0");
+    }
+}
+
+// Puts an image there that the words name.
+fn preset_image(
+    alloc: Global,
+    site: &mut MemSite,
+    name: &'static str,
+    image: &[u8],
+    words: &str,
+) -> Result<(), Fail>
+    requires fresh { site.old.disk.journal ≡ [] }
+    requires name { IsTrue (is_good_name name.now) }
+    ensures journal { site.new.disk.journal ≡ [] }
+{
+    if has_word(words, name) {
+        site.preset_file(name, image.to_vec(alloc)?)?;
+    }
+    Ok(())
+}
+
 impl Setting {
     /// With blocks of so many bytes.
     pub(crate) fn new(rt: &impl Abort, alloc: Global, block: u32) -> Result<Setting, Fail> {
@@ -68,21 +104,12 @@ impl Setting {
     ) -> Result<MemSite, Fail>
         ensures { IfOk result (λ site. site.disk.journal ≡ []) }
     {
-        let mut site = failing_partition(alloc, 106496, self.block, vec![in alloc; failing]?)?;
         assert!(rt; matches!(self.block, 512 | 4096));
         assert_eq!(rt; self.live.len(), 40960);
-        if stood != "none" {
-            site.preset_part(FROM, &self.live);
-        }
-        if stood == "cleared" {
-            site.preset_part(106496 - u64::from(self.block), b"Cleared Kernel Dump\0");
-        }
-        if has_word(words, "a.img") {
-            site.preset_file("a.img", self.images.0.as_slice().to_vec(alloc)?)?;
-        }
-        if has_word(words, "b.img") {
-            site.preset_file("b.img", self.images.1.as_slice().to_vec(alloc)?)?;
-        }
+        let mut site = failing_partition(alloc, 106496, self.block, vec![in alloc; failing]?)?;
+        preset_dump(&mut site, self.block, &self.live, stood);
+        preset_image(alloc, &mut site, "a.img", &self.images.0, words)?;
+        preset_image(alloc, &mut site, "b.img", &self.images.1, words)?;
         Ok(site)
     }
 
