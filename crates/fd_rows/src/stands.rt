@@ -45,19 +45,28 @@ pub(crate) fn put_back(rt: &impl Abort, site: &mut MemSite, bytes: &[u8]) {
     assert!(rt; site.write_part(FROM, bytes).is_ok());
 }
 
-// Puts the dump there as it stood, if it did.
-fn preset_dump(site: &mut MemSite, block: u32, live: &[u8], stood: &str)
+// Puts the dump there if it stands.
+fn preset_dump(site: &mut MemSite, live: &[u8], stands: bool)
     requires fresh { site.old.disk.journal ≡ [] }
     requires size { length site.old.disk.base_part ≡ 106496 }
     requires live { length live.now ≡ 40960 }
+    ensures journal { site.new.disk.journal ≡ [] }
+    ensures size { length site.new.disk.base_part ≡ 106496 }
+{
+    if stands {
+        site.preset_part(FROM, live);
+    }
+}
+
+// Clears the dump if it is cleared.
+fn preset_mark(site: &mut MemSite, block: u32, cleared: bool)
+    requires fresh { site.old.disk.journal ≡ [] }
+    requires size { length site.old.disk.base_part ≡ 106496 }
     requires least { 512 ≤ block }
     requires most { block ≤ 4096 }
     ensures journal { site.new.disk.journal ≡ [] }
 {
-    if stood != "none" {
-        site.preset_part(FROM, live);
-    }
-    if stood == "cleared" {
+    if cleared {
         site.preset_part(106496 - u64::from(block), b"Cleared Kernel Dump\0");
     }
 }
@@ -107,7 +116,8 @@ impl Setting {
         assert!(rt; matches!(self.block, 512 | 4096));
         assert_eq!(rt; self.live.len(), 40960);
         let mut site = failing_partition(alloc, 106496, self.block, vec![in alloc; failing]?)?;
-        preset_dump(&mut site, self.block, &self.live, stood);
+        preset_dump(&mut site, &self.live, stood != "none");
+        preset_mark(&mut site, self.block, stood == "cleared");
         preset_image(alloc, &mut site, "a.img", &self.images.0, words)?;
         preset_image(alloc, &mut site, "b.img", &self.images.1, words)?;
         Ok(site)
