@@ -64,8 +64,9 @@ int main(int count, char **args) {
         if (strchr(words[0], '=')) environment = environment_with(*words++);
         commands[known++] = (struct command){args[i + 1], words, environment, calloc(runs, 8), calloc(runs, 8), 0};
     }
+    /* Back and forth, since what ran before decides what memory the machine has at hand. */
     for (int round = 0; round < runs; round++)
-        for (int i = 0; i < known; i++) run(commands + i, round);
+        for (int i = 0; i < known; i++) run(commands + (round % 2 ? known - 1 - i : i), round);
     for (int i = 0; i < known; i++)
         for (int round = 0; round < runs; round++)
             commands[i].ratios[round] = commands[0].seconds[round] / commands[i].seconds[round];
