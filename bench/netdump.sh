@@ -1,10 +1,11 @@
 #!/usr/bin/env bash
 # `netdump` of a dump of 56 MB to `netdumpd` over this machine's own network, beside atftp, which puts the same bytes to its
-# server in blocks of 4096 with a window of 8, and beside atftp whose file is then synced, as netdumpd syncs its own before it
-# acknowledges the end. The time is that of the clock, from the client's start to its end, since both wait for each other; the
+# server in blocks of 4096 with a window of 8; beside atftp whose file is then synced, as netdumpd syncs its own before it
+# acknowledges the end; and beside a plain C client and server of the same shape, which read the image whole into fresh memory,
+# send each 4096 bytes in a datagram of its own, of which 16 may be unanswered, and write and answer each. The time is that of the clock, from the client's start to its end, since both wait for each other; the
 # server's peak memory is to be one for all sizes. Prints the median of the runs, the slowest one, and the ratios of the rates.
 # The first argument is how many runs are timed (20 if it is left out); TMPDIR says where the files lie. It needs root for a
-# network of its own (`unshare`, `ip`), atftp and atftpd, and GNU time as `/usr/bin/time` for the memory.
+# network of its own (`unshare`, `ip`), cc, atftp and atftpd, and GNU time as `/usr/bin/time` for the memory.
 set -eu
 top=$(cd "$(dirname "$0")/.." && pwd)
 runs=${1:-20}
@@ -18,6 +19,72 @@ program=$top/crates/fd_tool/out/fd_tool
 # As the script `crashway` starts the program: with large pages for its memory.
 export GLIBC_TUNABLES=glibc.malloc.hugetlb=1
 mkdir "$folder/client" "$folder/server" "$folder/tftp"
+cat >"$folder/plain.c" <<'C'
+#define _GNU_SOURCE
+#include <arpa/inet.h>
+#include <fcntl.h>
+#include <stdlib.h>
+#include <string.h>
+#include <sys/socket.h>
+#include <sys/stat.h>
+#include <unistd.h>
+
+enum { HEADER = 24, CHUNK = 4096, MOST_UNANSWERED = 16 };
+
+/* serve FILE: writes each chunk at its place, acknowledges it, and at the end syncs the file. */
+static int serve(int net, const char *name) {
+    static char datagram[HEADER + CHUNK];
+    int file = open(name, O_RDWR | O_CREAT | O_TRUNC, 0600);
+    struct sockaddr_in peer;
+    socklen_t length = sizeof peer;
+    for (;;) {
+        ssize_t got = recvfrom(net, datagram, sizeof datagram, 0, (void *)&peer, &length);
+        if (got < HEADER || file < 0) return 1;
+        off_t place;
+        memcpy(&place, datagram + 8, 8);
+        if (got > HEADER && pwrite(file, datagram + HEADER, got - HEADER, place) != got - HEADER) return 1;
+        if (got == HEADER && fsync(file)) return 1;
+        if (sendto(net, datagram, 4, 0, (void *)&peer, length) != 4) return 1;
+        if (got == HEADER) return 0;
+    }
+}
+
+/* send IMAGE LENGTH: reads the image whole, and sends so many bytes of its end. */
+static int submit(int net, struct sockaddr_in *peer, const char *name, size_t length) {
+    struct stat stat;
+    int image = open(name, O_RDONLY);
+    if (image < 0 || fstat(image, &stat)) return 1;
+    size_t size = stat.st_size, done = 0;
+    char *bytes = malloc(size), datagram[HEADER + CHUNK] = {0}, answer[64];
+    while (done < size) {
+        ssize_t now = pread(image, bytes + done, size - done, done);
+        if (now <= 0) return 1;
+        done += now;
+    }
+    int unanswered = 0;
+    for (size_t place = 0; place <= length; place += CHUNK) {
+        size_t piece = place == length ? 0 : CHUNK;
+        while (unanswered == MOST_UNANSWERED || (piece == 0 && unanswered > 0)) {
+            if (recv(net, answer, sizeof answer, 0) < 0) return 1;
+            unanswered--;
+            while (unanswered > 0 && recv(net, answer, sizeof answer, MSG_DONTWAIT) >= 0) unanswered--;
+        }
+        memcpy(datagram + 8, &place, 8);
+        memcpy(datagram + HEADER, bytes + size - length + place, piece);
+        if (sendto(net, datagram, HEADER + piece, 0, (void *)peer, sizeof *peer) < 0) return 1;
+        unanswered++;
+    }
+    return recv(net, answer, sizeof answer, 0) < 0;
+}
+
+int main(int count, char **args) {
+    struct sockaddr_in server = {.sin_family = AF_INET, .sin_port = htons(20123), .sin_addr.s_addr = htonl(INADDR_LOOPBACK)};
+    int net = socket(AF_INET, SOCK_DGRAM, 0);
+    if (count == 2) return bind(net, (void *)&server, sizeof server) || serve(net, args[1]);
+    return count != 3 || submit(net, &server, args[1], strtoull(args[2], NULL, 10));
+}
+C
+cc -O2 -Wall -Werror -o "$folder/plain" "$folder/plain.c"
 chmod 777 "$folder" "$folder/tftp"
 
 # The dump's bytes, for atftp.
@@ -54,12 +121,23 @@ one_put() {
     cmp "$folder/tftp/body" "$folder/body"
 }
 
+one_plain() {
+    rm -f "$folder/copy"
+    "$folder/plain" "$folder/copy" &
+    local server=$!
+    until grep -q ' 0100007F:4E9B ' /proc/net/udp; do sleep 0.01; done
+    seconds "$folder/plain" "$folder/client/a.img" 56434688 >>"$folder/plain_c"
+    wait "$server"
+    cmp "$folder/copy" <(tail -c 56434688 "$folder/client/a.img")
+}
+
 for ((run = 0; run < runs; run++)); do
     one_dump a.img netdump
     cmp "$folder/server/vmcore.0" "$folder/body"
     peak=$(tail -n 1 "$folder/peak")
     one_put atftp_put
     one_put atftp_sync
+    one_plain
 done
 one_dump @arm64:0 small
 echo "the server's peak memory: $peak KiB for 56 MB, $(tail -n 1 "$folder/peak") KiB for 61 KB"
@@ -72,7 +150,7 @@ figures() {
         print middle >"'"$folder"'/" name ".median" }'
 }
 figures netdump
-for put in atftp_put atftp_sync; do
+for put in atftp_put atftp_sync plain_c; do
     figures "$put"
     awk -v name="$put" -v put="$(cat "$folder/$put.median")" -v dump="$(cat "$folder/netdump.median")" \
         'BEGIN { printf "netdump has %.2f of the rate of %s\n", put / dump, name }'
