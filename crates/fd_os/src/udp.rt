@@ -1,19 +1,24 @@
-//! UDP sockets that don't block, and how long they are waited for.
+//! UDP sockets that don't block, and how they are waited for.
 
 ghost use Rattle.std.specs.Prelude.{◌≤◌, length, IfOk, IfSome};
 
+use mio::net::UdpSocket;
+use mio::{Events, Interest, Poll, Token};
 use std::io::{Error, ErrorKind};
-use std::net::{Ipv4Addr, Net, SocketAddr, SocketAddrV4, UdpSocket};
+use std::net::{Ipv4Addr, Net, SocketAddr};
 use std::rt::Clock;
-use std::time::{Duration, Instant};
+use std::time::Duration;
 use std::{io, thread};
 
-/// How many looks a wait has at most. It ends before by the clock: a nap between two of them takes a microsecond at least,
-/// and most often some fifty.
-pub(crate) const MOST_LOOKS: u32 = 1000;
+/// How many looks follow one another, as long as the other side speaks, before it is waited for: being woken takes as long,
+/// and takes time of the one who wakes.
+pub(crate) const EAGER_LOOKS: u32 = 64;
 
-/// How many of the first looks follow one another without a nap. More of them take the processor from the one who is to answer.
-const EAGER_LOOKS: u32 = 3;
+/// How many milliseconds a wait takes at most. A timeout of a socket of its own takes eight times that.
+const LONGEST_WAIT: u64 = 1;
+
+/// How often a datagram is sent that the system takes none of.
+const MOST_TRIES: u32 = 4;
 
 /// Where a datagram came from, and how many of its bytes were given.
 #[derive(Clone, Copy)]
@@ -28,16 +33,55 @@ pub(crate) fn not_open() -> Error {
     Error::new(ErrorKind::NotConnected, "Not open")
 }
 
-/// A socket on a port of all addresses of this machine. Port 0 is any that is free.
-pub(crate) fn bound<R: Net>(rt: &R, port: u16) -> io::Result<UdpSocket> {
-    let socket = UdpSocket::bind(rt, (Ipv4Addr::UNSPECIFIED, port))?;
-    socket.set_nonblocking(true)?;
-    Ok(socket)
+/// An address and a port, as the system takes them.
+pub(crate) fn socket_addr(address: u32, port: u16) -> SocketAddr {
+    SocketAddr::from((Ipv4Addr::from_bits(address), port))
 }
 
-// Whether an error says that a call would have to wait.
-fn would_wait(why: &Error) -> bool {
-    matches!(why.kind(), ErrorKind::WouldBlock | ErrorKind::Interrupted)
+/// What is waited for: a datagram at any socket that was bound here.
+#[derive(Drop)]
+pub(crate) struct Arrivals {
+    poll: Poll,
+    events: Events,
+}
+
+impl Arrivals {
+    pub fn new<R: Net + AllocGlobal>(rt: &R) -> io::Result<Arrivals> {
+        Ok(Arrivals {
+            poll: Poll::new(rt)?,
+            // Which socket it is doesn't matter, since each is looked at.
+            events: Events::with_capacity(rt.alloc(), 1)?,
+        })
+    }
+
+    /// A socket on a port of all addresses of this machine. Port 0 is any that is free.
+    pub fn bound<R: Net>(&self, rt: &R, port: u16) -> io::Result<UdpSocket> {
+        let mut socket = UdpSocket::bind(rt, SocketAddr::from((Ipv4Addr::UNSPECIFIED, port)))?;
+        self.poll
+            .registry()
+            .register(&mut socket, Token(0), Interest::READABLE)?;
+        Ok(socket)
+    }
+
+    /// Waits a millisecond at most. What comes after a look at its socket that brought nothing ends the wait.
+    pub fn wait(&mut self) -> io::Result<()> {
+        let longest = Duration::from_millis(LONGEST_WAIT);
+        self.poll.poll(&mut self.events, Some(longest))
+    }
+}
+
+/// Sleeps as shortly as the system can: some fifty microseconds.
+pub(crate) fn nap<R: Clock>(rt: &R) {
+    thread::sleep(rt, Duration::from_micros(1));
+}
+
+// Whether an error says nothing of what a call was for: the call would have to wait, or the peer's machine has refused an
+// earlier datagram.
+fn is_passing(why: &Error) -> bool {
+    matches!(
+        why.kind(),
+        ErrorKind::WouldBlock | ErrorKind::Interrupted | ErrorKind::ConnectionRefused
+    )
 }
 
 /// Takes the datagram that is there, if one is. What doesn't fit in `out` is lost.
@@ -51,64 +95,28 @@ pub(crate) fn look(socket: &UdpSocket, out: &mut [u8]) -> io::Result<Option<Arri
             len,
         })),
         Ok(_) => Ok(None),
-        Err(why) if would_wait(&why) => Ok(None),
+        Err(why) if is_passing(&why) => Ok(None),
         Err(why) => Err(why),
     }
 }
 
-/// A wait for what a look didn't find.
-#[derive(Drop)]
-pub(crate) struct Wait {
-    began: Option<Instant>,
-    looks: u32,
-}
-
-impl Wait {
-    pub(crate) fn new() -> Wait {
-        Wait {
-            began: None,
-            looks: 0,
-        }
-    }
-
-    /// Goes on to the next look, if there is one, behind one that found nothing: in all a wait takes less than a millisecond.
-    /// The first looks follow at once, later ones behind the shortest sleep that the system has. A sleep of a millisecond
-    /// would leave datagrams lying, and a timeout of the socket takes eight.
-    pub(crate) fn goes_on<R: Clock>(&mut self, rt: &R) -> io::Result<bool> {
-        self.looks = self.looks.saturating_add(1);
-        if self.looks < EAGER_LOOKS {
-            return Ok(true);
-        }
-        match &self.began {
-            Some(began) => {
-                if began.elapsed(rt)? >= Duration::from_micros(900) {
-                    return Ok(false);
-                }
-            }
-            None => self.began = Some(Instant::now(rt)?),
-        }
-        thread::sleep(rt, Duration::from_micros(1));
-        Ok(true)
-    }
-}
-
-/// Sends a datagram. Where the system has no room for it, tries again as long as a wait goes on.
+/// Sends a datagram to an address, or to the one that the socket is connected to. Where the system has no room for it, tries
+/// again after a millisecond.
 pub(crate) fn send<R: Clock>(
     rt: &R,
     socket: &UdpSocket,
     bytes: &[u8],
-    address: u32,
-    port: u16,
+    to: Option<SocketAddr>,
 ) -> io::Result<()> {
-    let mut wait = Wait::new();
-    for _ in 0..MOST_LOOKS {
-        match socket.send_to(bytes, SocketAddrV4::new(Ipv4Addr::from_bits(address), port)) {
+    for _ in 0..MOST_TRIES {
+        let sent = match to {
+            Some(to) => socket.send_to(bytes, to),
+            None => socket.send(bytes),
+        };
+        match sent {
             Ok(_) => return Ok(()),
-            Err(why) if would_wait(&why) => {}
+            Err(why) if is_passing(&why) => thread::sleep(rt, Duration::from_millis(LONGEST_WAIT)),
             Err(why) => return Err(why),
-        }
-        if !wait.goes_on(rt)? {
-            break;
         }
     }
     Err(Error::new(ErrorKind::WouldBlock, "No room to send"))

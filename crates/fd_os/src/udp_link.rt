@@ -4,11 +4,12 @@ ghost use Rattle.std.specs.Prelude.{◌≡◌, ◌≤◌, None, IfOk};
 ghost use Rattle.fd_site.specs.Trace.{IsPolled};
 
 use crate::fault::counted;
-use crate::udp::{MOST_LOOKS, Wait, bound, look, not_open, send};
+use crate::udp::{Arrivals, EAGER_LOOKS, look, nap, not_open, send, socket_addr};
 use fd_site::{Failed, Link, Polled};
+use mio::net::UdpSocket;
 use std::collections::VecDeque;
 use std::io;
-use std::net::{Net, UdpSocket};
+use std::net::Net;
 use std::rt::Clock;
 
 /// The port of netdump's client (`sys/netinet/netdump/netdump.h`, `NETDUMP_ACKPORT`).
@@ -17,8 +18,9 @@ const CLIENT_PORT: u16 = 20024;
 /// How many datagrams are sent at most that nothing was heard of. A socket holds some twenty that aren't read.
 const MOST_UNANSWERED: u32 = 16;
 
-/// How many are heard of at once when none more may be sent, so that a nap of either side is for several of them.
-const BUNCH: u32 = 8;
+/// Of how many answers that are still to come a nap brings several. A wait would end at the first, and each that ends so takes
+/// time of the server.
+const SEVERAL: u32 = 8;
 
 /// How many datagrams are kept that came before a poll, until no more are waited for.
 const MOST_HEARD: usize = 64;
@@ -27,7 +29,8 @@ const MOST_HEARD: usize = 64;
 /// late, and isn't to find more than a socket holds.
 const PATIENCE: u32 = 1000;
 
-/// A server by UDP. Datagrams of another address are taken for silence, and a poll waits less than a millisecond.
+/// A server by UDP. Datagrams of another address are taken for silence, and a poll waits little more than
+/// a millisecond.
 #[derive(Drop)]
 pub struct UdpLink<'a, R: Net + Clock + Eprint + AllocGlobal> {
     rt: &'a R,
@@ -51,6 +54,7 @@ impl<'a, R: Net + Clock + Eprint + AllocGlobal> UdpLink<'a, R> {
 // A socket, and the server that it speaks to.
 #[derive(Drop)]
 struct Line {
+    arrivals: Arrivals,
     socket: UdpSocket,
     server: u32,
     // What came while there was no room to send. The next polls bring it.
@@ -71,11 +75,13 @@ struct Heard {
 impl Line {
     // The client's port may be taken by another client of this machine, and the server answers any.
     fn open<R: Net + AllocGlobal>(rt: &R, server: u32) -> io::Result<Line> {
-        let socket = match bound(rt, CLIENT_PORT) {
+        let arrivals = Arrivals::new(rt)?;
+        let socket = match arrivals.bound(rt, CLIENT_PORT) {
             Ok(socket) => socket,
-            Err(_) => bound(rt, 0)?,
+            Err(_) => arrivals.bound(rt, 0)?,
         };
         Ok(Line {
+            arrivals,
             socket,
             server,
             heard: VecDeque::new(rt.alloc()),
@@ -99,37 +105,48 @@ impl Line {
         }
     }
 
-    // Waits for a datagram of the server.
-    fn wait<R: Clock>(&mut self, rt: &R) -> io::Result<Option<Heard>> {
-        let mut wait = Wait::new();
-        for _ in 0..MOST_LOOKS {
+    // Looks for a datagram of the server until one is there, so often.
+    fn look_eagerly(&mut self, looks: u32) -> io::Result<Option<Heard>> {
+        for _ in 0..looks {
             if let Some(heard) = self.look()? {
                 return Ok(Some(heard));
-            }
-            if !wait.goes_on(rt)? {
-                break;
             }
         }
         Ok(None)
     }
 
-    // Waits until the server is heard of, and takes a bunch. After a long silence nothing is expected any more of what was
-    // sent.
+    // Waits for a datagram of the server.
+    fn wait<R: Clock>(&mut self, rt: &R) -> io::Result<Option<Heard>> {
+        if self.unanswered > SEVERAL {
+            if let Some(heard) = self.look()? {
+                return Ok(Some(heard));
+            }
+            nap(rt);
+        }
+        if let Some(heard) = self.look_eagerly(EAGER_LOOKS)? {
+            return Ok(Some(heard));
+        }
+        self.arrivals.wait()?;
+        self.look()
+    }
+
+    // Waits until the server is heard of, and takes what else is there. After a long silence nothing is expected any more of
+    // what was sent.
     fn make_room<R: Clock>(&mut self, rt: &R) -> io::Result<()> {
         for _ in 0..PATIENCE {
             if let Some(heard) = self.wait(rt)? {
                 self.heard.push_back(heard)?;
-                return self.take_bunch(rt);
+                return self.take_rest();
             }
         }
         self.unanswered = 0;
         Ok(())
     }
 
-    // Takes what else is to be heard of a bunch, as long as no wait for it is silent.
-    fn take_bunch<R: Clock>(&mut self, rt: &R) -> io::Result<()> {
-        for _ in 1..BUNCH {
-            match self.wait(rt)? {
+    // Takes what is there of the server's.
+    fn take_rest(&mut self) -> io::Result<()> {
+        for _ in 0..MOST_UNANSWERED {
+            match self.look()? {
                 Some(heard) => self.heard.push_back(heard)?,
                 None => break,
             }
@@ -142,7 +159,12 @@ impl Line {
         if self.unanswered >= MOST_UNANSWERED && self.heard.len() < MOST_HEARD {
             self.make_room(rt)?;
         }
-        send(rt, &self.socket, bytes, self.server, port)?;
+        send(
+            rt,
+            &self.socket,
+            bytes,
+            Some(socket_addr(self.server, port)),
+        )?;
         self.unanswered = self.unanswered.saturating_add(1);
         Ok(())
     }

@@ -4,11 +4,12 @@ ghost use Rattle.std.specs.Prelude.{◌≡◌, ◌≤◌, None, IfOk};
 ghost use Rattle.fd_site.specs.Trace.{IsTaken};
 
 use crate::fault::{counted, lost};
-use crate::udp::{MOST_LOOKS, Wait, bound, look, not_open, send};
+use crate::udp::{Arrivals, EAGER_LOOKS, look, not_open, send, socket_addr};
 use fd_site::{Failed, Peer, Ports, Taken};
+use mio::net::UdpSocket;
 use std::io;
 use std::io::{Error, ErrorKind};
-use std::net::{Net, UdpSocket};
+use std::net::Net;
 use std::rt::Clock;
 
 /// The port of netdump's server (`sys/netinet/netdump/netdump.h`, `NETDUMP_PORT`).
@@ -17,8 +18,8 @@ const HERALD_PORT: u16 = 20023;
 /// How many datagrams are taken in a row from one port at most, so that no other starves.
 const MOST_IN_A_ROW: u32 = 16;
 
-/// The ports of a server by UDP: the herald's, and one that is free for each slot. One look waits less than a millisecond
-/// for all of them, begins at the port that spoke last, and gives each its turn. An answer that the system can't send, as
+/// The ports of a server by UDP: the herald's, and one that is free for each slot. One look waits little more than
+/// a millisecond for all of them, begins at the port that spoke last, and gives each its turn. An answer that the system can't send, as
 /// to a peer that can't be reached, is lost as any datagram may be, and the server goes on: a forged sender doesn't end it.
 /// The first is said.
 #[derive(Drop)]
@@ -67,28 +68,61 @@ impl<'a, R: Net + Clock + Eprint + AllocGlobal> UdpPorts<'a, R> {
 // The ports that are open.
 #[derive(Drop)]
 struct Sockets {
+    arrivals: Arrivals,
     slots: Vec<Slot>,
+    // Whether something came at the last look.
+    spoken: bool,
     // Whose turn it is, counted on from one to the next and round, and how many datagrams it brought.
     turn: usize,
     in_a_row: u32,
 }
 
-// The port of a slot.
+// The port of a slot. A session's has one peer, and is connected to it when that is answered first: then the system looks no
+// way up for an answer, and lets nobody else's datagrams in.
 #[derive(Drop)]
 struct Slot {
     number: u16,
     socket: UdpSocket,
+    connected: bool,
     ghost within: { number ≤ 16 },
+}
+
+impl Slot {
+    fn new(number: u16, socket: UdpSocket) -> Slot
+        requires { number ≤ 16 }
+        ensures { result.number ≡ number }
+    {
+        Slot {
+            number,
+            socket,
+            connected: false,
+        }
+    }
+
+    fn answer<R: Clock>(&mut self, rt: &R, peer: Peer, bytes: &[u8; 4]) -> io::Result<()> {
+        let to = socket_addr(peer.address, peer.port);
+        if self.number == 0 {
+            return send(rt, &self.socket, bytes, Some(to));
+        }
+        if !self.connected {
+            self.socket.connect(to)?;
+            self.connected = true;
+        }
+        send(rt, &self.socket, bytes, None)
+    }
 }
 
 impl Sockets {
     // Opens the herald's port.
     fn listen<R: Net + AllocGlobal>(rt: &R, herald: u16) -> io::Result<Sockets> {
-        let socket = bound(rt, herald)?;
+        let arrivals = Arrivals::new(rt)?;
+        let socket = arrivals.bound(rt, herald)?;
         let mut slots = Vec::new(rt.alloc());
-        slots.push(Slot { number: 0, socket })?;
+        slots.push(Slot::new(0, socket))?;
         Ok(Sockets {
+            arrivals,
             slots,
+            spoken: false,
             turn: 0,
             in_a_row: 0,
         })
@@ -110,10 +144,8 @@ impl Sockets {
             return Err(Error::new(ErrorKind::InvalidInput, "No such slot"));
         }
         if self.of_slot(slot).is_none() {
-            self.slots.push(Slot {
-                number: slot,
-                socket: bound(rt, 0)?,
-            })?;
+            let socket = self.arrivals.bound(rt, 0)?;
+            self.slots.push(Slot::new(slot, socket))?;
         }
         Ok(())
     }
@@ -150,34 +182,49 @@ impl Sockets {
         Ok(Taken::Silent)
     }
 
-    // Looks at each port once, in turn.
-    fn look(&mut self, out: &mut [u8; 8192]) -> io::Result<Taken>
+    // Looks at each port in turn, so often, until one brings something.
+    fn look(&mut self, rounds: u32, out: &mut [u8; 8192]) -> io::Result<Taken>
         ensures { IfOk result IsTaken }
     {
-        for _ in 0..self.slots.len() {
-            let taken = self.look_at_one(out)?;
-            if !matches!(taken, Taken::Silent) {
-                return Ok(taken);
+        for _ in 0..rounds {
+            for _ in 0..self.slots.len() {
+                let taken = self.look_at_one(out)?;
+                if !matches!(taken, Taken::Silent) {
+                    return Ok(taken);
+                }
             }
         }
         Ok(Taken::Silent)
     }
 
     // Waits for a datagram at one of the ports.
-    fn wait<R: Clock>(&mut self, rt: &R, out: &mut [u8; 8192]) -> io::Result<Taken>
+    fn wait(&mut self, out: &mut [u8; 8192]) -> io::Result<Taken>
         ensures { IfOk result IsTaken }
     {
-        let mut wait = Wait::new();
-        for _ in 0..MOST_LOOKS {
-            let taken = self.look(out)?;
-            if !matches!(taken, Taken::Silent) {
-                return Ok(taken);
-            }
-            if !wait.goes_on(rt)? {
-                break;
+        let taken = self.look(if self.spoken { EAGER_LOOKS } else { 1 }, out)?;
+        if !matches!(taken, Taken::Silent) {
+            return Ok(taken);
+        }
+        self.arrivals.wait()?;
+        let taken = self.look(1, out)?;
+        self.spoken = !matches!(taken, Taken::Silent);
+        Ok(taken)
+    }
+
+    // Answers a peer from the port of a slot, if that is open.
+    fn answer<R: Clock>(
+        &mut self,
+        rt: &R,
+        slot: u16,
+        peer: Peer,
+        bytes: &[u8; 4],
+    ) -> Option<io::Result<()>> {
+        for open in &mut self.slots {
+            if open.number == slot {
+                return Some(open.answer(rt, peer, bytes));
             }
         }
-        Ok(Taken::Silent)
+        None
     }
 }
 
@@ -194,7 +241,7 @@ impl<R: Net + Clock + Eprint + AllocGlobal> Ports for UdpPorts<'_, R> {
 
     fn take(&mut self, out: &mut [u8; 8192]) -> Result<Taken, Failed> {
         let taken = match &mut self.sockets {
-            Some(sockets) => sockets.wait(self.rt, out),
+            Some(sockets) => sockets.wait(out),
             None => Err(not_open()),
         };
         counted(self.rt, "netdump server's ports", &mut self.faults, taken)
@@ -209,13 +256,12 @@ impl<R: Net + Clock + Eprint + AllocGlobal> Ports for UdpPorts<'_, R> {
     }
 
     fn answer(&mut self, slot: u16, peer: Peer, bytes: &[u8; 4]) -> Result<(), Failed> {
-        let socket = match &self.sockets {
-            Some(sockets) => sockets.of_slot(slot),
+        let sent = match &mut self.sockets {
+            Some(sockets) => sockets.answer(self.rt, slot, peer, bytes),
             None => None,
         };
-        match socket {
-            Some(socket) => {
-                let sent = send(self.rt, socket, bytes, peer.address, peer.port);
+        match sent {
+            Some(sent) => {
                 lost(self.rt, "netdump client", &mut self.lost, sent);
                 Ok(())
             }
