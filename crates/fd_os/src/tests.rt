@@ -4,6 +4,7 @@ use crate::{DirSite, StdSink, UdpLink, UdpPorts, hold_standard};
 use fd_site::{Failed, Link, Peer, Polled, Ports, Sink, Site, Taken, good_name};
 use std::fs;
 use std::net::Net;
+use std::ops::Range;
 use std::process::Abort;
 use std::rt::Clock;
 use std::test::Fail;
@@ -188,9 +189,9 @@ fn answer_numbers<P: Ports>(ports: &mut P, count: u8, slot: u16) -> Result<u32, 
 }
 
 // Polls so many answers, in the order of their numbers.
-fn hear_numbers<L: Link>(rt: &impl Abort, link: &mut L, count: u8) -> Result<(), Failed> {
+fn hear_numbers<L: Link>(rt: &impl Abort, link: &mut L, numbers: Range<u8>) -> Result<(), Failed> {
     let mut out = [0; 64];
-    for number in 0..count {
+    for number in numbers {
         assert!(rt; matches!(link.poll(&mut out)?, Polled::Got { len: 4, .. }));
         assert_eq!(rt; out[0], number);
     }
@@ -209,7 +210,7 @@ fn exchange_many<R: Net + Clock + Eprint + AllocGlobal + Abort>(
     assert_eq!(rt; answer_numbers(ports, 16, 0)?, 16);
     link.send(ports.port(0)?, &[16])?;
     assert_eq!(rt; answer_numbers(ports, 1, 0)?, 1);
-    hear_numbers(rt, &mut link, 17)?;
+    hear_numbers(rt, &mut link, 0..17)?;
     Ok(())
 }
 
@@ -266,6 +267,62 @@ fn give_up<R: Net + Clock + Eprint + AllocGlobal + Abort>(
 fn a_silent_server_is_waited_for_once(rt: HostRuntime) -> Result<(), Fail> {
     let mut ports = UdpPorts::with_herald(&rt, 0);
     give_up(&rt, &mut ports)
+}
+
+// A session's port hears its own peer alone.
+fn hear_one_peer<R: Net + Clock + Eprint + AllocGlobal + Abort>(
+    rt: &R,
+    ports: &mut UdpPorts<'_, R>,
+) -> Result<(), Fail> {
+    let mut peer = UdpLink::new(rt);
+    let mut stranger = UdpLink::new(rt);
+    exchange(rt, ports, &mut peer)?;
+    stranger.open(LOOPBACK)?;
+    stranger.send(ports.port(1)?, b"abc")?;
+    peer.send(ports.port(1)?, b"abc")?;
+    assert_eq!(rt; answer_numbers(ports, 1, 1)?, 1);
+    assert_eq!(rt; ports.take(&mut [0; 8192])?, Taken::Silent);
+    hear_numbers(rt, &mut peer, b'a'..b'b')?;
+    Ok(())
+}
+
+#[test]
+fn a_stranger_is_not_heard_at_the_port_of_a_slot(rt: HostRuntime) -> Result<(), Fail> {
+    let mut ports = UdpPorts::with_herald(&rt, 0);
+    hear_one_peer(&rt, &mut ports)
+}
+
+// A client that is gone when it was answered.
+fn answer_and_go<R: Net + Clock + Eprint + AllocGlobal + Abort>(
+    rt: &R,
+    ports: &mut UdpPorts<'_, R>,
+) -> Result<Peer, Fail> {
+    let mut link = UdpLink::new(rt);
+    ports.listen()?;
+    send(rt, &mut link, ports.port(0)?)?;
+    let peer = take(rt, ports)?;
+    ports.answer(1, peer, b"four")?;
+    hear(rt, &mut link)?;
+    Ok(peer)
+}
+
+// The system says of an answer to it that its port is closed, which is silence.
+fn answer_the_gone<R: Net + Clock + Eprint + AllocGlobal + Abort>(
+    rt: &R,
+    ports: &mut UdpPorts<'_, R>,
+) -> Result<(), Fail> {
+    let peer = answer_and_go(rt, ports)?;
+    for _ in 0..3 {
+        ports.answer(1, peer, b"four")?;
+        assert_eq!(rt; ports.take(&mut [0; 8192])?, Taken::Silent);
+    }
+    Ok(())
+}
+
+#[test]
+fn a_client_that_is_gone_is_no_fault(rt: HostRuntime) -> Result<(), Fail> {
+    let mut ports = UdpPorts::with_herald(&rt, 0);
+    answer_the_gone(&rt, &mut ports)
 }
 
 #[test]

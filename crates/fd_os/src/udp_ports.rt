@@ -77,8 +77,8 @@ struct Sockets {
     in_a_row: u32,
 }
 
-// The port of a slot. A session's has one peer, and is connected to it when that is answered first: then the system looks no
-// way up for an answer, and lets nobody else's datagrams in.
+// The port of a slot. A session's has one peer, and is connected to it when that is answered first: then the system lets
+// nobody else's datagrams in, and need not find the way for each answer.
 #[derive(Drop)]
 struct Slot {
     number: u16,
@@ -99,6 +99,7 @@ impl Slot {
         }
     }
 
+    // Answers a peer. The herald's port has many.
     fn answer<R: Clock>(&mut self, rt: &R, peer: Peer, bytes: &[u8; 4]) -> io::Result<()> {
         let to = socket_addr(peer.address, peer.port);
         if self.number == 0 {
