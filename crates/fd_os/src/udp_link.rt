@@ -29,8 +29,7 @@ const MOST_HEARD: usize = 64;
 /// late, and isn't to find more than a socket holds.
 const PATIENCE: u32 = 1000;
 
-/// A server by UDP. Datagrams of another address are taken for silence, and a poll waits little more than
-/// a millisecond.
+/// A server by UDP. Datagrams of another address are taken for silence, and a poll waits little more than a millisecond.
 #[derive(Drop)]
 pub struct UdpLink<'a, R: Net + Clock + Eprint + AllocGlobal> {
     rt: &'a R,

@@ -18,10 +18,10 @@ const HERALD_PORT: u16 = 20023;
 /// How many datagrams are taken in a row from one port at most, so that no other starves.
 const MOST_IN_A_ROW: u32 = 16;
 
-/// The ports of a server by UDP: the herald's, and one that is free for each slot. One look waits little more than
-/// a millisecond for all of them, begins at the port that spoke last, and gives each its turn. An answer that the system can't send, as
-/// to a peer that can't be reached, is lost as any datagram may be, and the server goes on: a forged sender doesn't end it.
-/// The first is said.
+/// The ports of a server by UDP: the herald's, and one that is free for each slot. One look waits little more than a
+/// millisecond for all of them, begins at the port that spoke last, and gives each its turn. An answer that the system can't
+/// send, as to a peer that can't be reached, is lost as any datagram may be, and the server goes on: a forged sender doesn't
+/// end it. The first is said.
 #[derive(Drop)]
 pub struct UdpPorts<'a, R: Net + Clock + Eprint + AllocGlobal> {
     rt: &'a R,
