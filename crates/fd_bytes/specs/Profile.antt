@@ -9,7 +9,8 @@ use Rattle.fd_bytes.specs.declared.profile.Profile.{Profile}
 -- where physical addresses end and kernel addresses begin; the levels of page tables; the unit and the greatest size of a
 -- kernel window; whether the direct map may begin at another physical address than 0; the current version of a minidump,
 -- the height of the entries of its page directory, whether the last-level tables below it are dumped, and whether a reader
--- looks for an address in the kernel window first, and not in the direct map
+-- looks for an address in the kernel window first, and not in the direct map; the machine of its ELF files (EM_X86_64,
+-- EM_AARCH64 and EM_RISCV of sys/elf_common.h)
 abbrev pub profile_of : Arch → Profile
 profile_of Amd64 = record {
   physical_end = 2 ^ 52;
@@ -22,6 +23,7 @@ profile_of Amd64 = record {
   directory_height = 1;
   dumps_last_tables = true;
   window_is_first = true;
+  elf_machine = 62;
 }
 profile_of Arm64 = record {
   physical_end = 2 ^ 48;
@@ -34,6 +36,7 @@ profile_of Arm64 = record {
   directory_height = 0;
   dumps_last_tables = false;
   window_is_first = false;
+  elf_machine = 183;
 }
 profile_of Riscv = record {
   physical_end = 2 ^ 56;
@@ -46,4 +49,5 @@ profile_of Riscv = record {
   directory_height = 0;
   dumps_last_tables = false;
   window_is_first = false;
+  elf_machine = 243;
 }

@@ -30,6 +30,9 @@ pub struct Profile {
     pub dumps_last_tables: bool,
     /// Whether a reader looks for an address in the kernel window first, and not in the direct map.
     pub window_is_first: bool,
+    /// The machine in the header of an ELF file of this architecture: `EM_X86_64`, `EM_AARCH64` and `EM_RISCV` of
+    /// `sys/elf_common.h`.
+    pub elf_machine: u16,
 }
 
 impl Arch {
@@ -49,6 +52,7 @@ impl Arch {
                 directory_height: 1,
                 dumps_last_tables: true,
                 window_is_first: true,
+                elf_machine: 62,
             },
             Arch::Arm64 => Profile {
                 physical_end: 1 << 48,
@@ -61,6 +65,7 @@ impl Arch {
                 directory_height: 0,
                 dumps_last_tables: false,
                 window_is_first: false,
+                elf_machine: 183,
             },
             Arch::Riscv => Profile {
                 physical_end: 1 << 56,
@@ -73,6 +78,7 @@ impl Arch {
                 directory_height: 0,
                 dumps_last_tables: false,
                 window_is_first: false,
+                elf_machine: 243,
             },
         }
     }

@@ -8,4 +8,3 @@ mod OneSpelling
 mod Pairs
 mod Segments
 mod Unfaulted
-mod Writing

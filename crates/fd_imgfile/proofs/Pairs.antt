@@ -9,10 +9,8 @@ use Rattle.std.proofs.lemmas.Slice.{between_from_start}
 use Rattle.fd_bytes.specs.Field.{u64_le_at}
 use Rattle.fd_imgfile.specs.Front.{lengths_in, second}
 use Rattle.fd_imgfile.specs.Spelling.{avail_bytes, u64}
+use Rattle.fd_site.proofs.Writing.{flat_map_push}
 use Rattle.fd_image.proofs.Slices.{slice-all, slice-join, slice-slice}
-
-pub flat_map_push : {X : Type 0} (f : X → List ℕ) (xs : List X) (x : X) (done : List ℕ) → flat_map f xs ≡ done → flat_map f (xs ++ x ∷ []) ≡ done ++ f x
-flat_map_push f xs x done is = flat_map-append f xs (x ∷ []) ∙ (ap (λ (l : List ℕ). flat_map f xs ++ l) (append-nil (f x)) ∙ ap (λ (l : List ℕ). l ++ f x) is)
 
 -- one more number
 pub number_more : (bytes : List ℕ) (numbers : List ℕ) (n i : ℕ) → flat_map u64 numbers ≡ slice_range bytes 0 (8 * i) → u64 n ≡ slice_range bytes (8 * i) (8 * i + 8)

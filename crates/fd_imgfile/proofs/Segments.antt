@@ -5,7 +5,7 @@ use Rattle.std.proofs.lemmas.List.{append-nil, map_push, take_more}
 use Rattle.std.proofs.lemmas.List.Folds.{concat-append}
 use Rattle.fd_image.specs.declared.parts.Seg.{Seg}
 use Rattle.fd_imgfile.specs.Spelling.{avail_bytes, pair_bytes, seg_bytes}
-use Rattle.fd_imgfile.proofs.Pairs.{flat_map_push}
+use Rattle.fd_site.proofs.Writing.{flat_map_push}
 use Rattle.fd_image.proofs.Slices.{slice-join}
 
 -- the bytes of one more segment

@@ -3,4 +3,3 @@ pub mod File
 pub mod Front
 pub mod Reading
 pub mod Spelling
-pub mod Writing

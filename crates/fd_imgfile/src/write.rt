@@ -8,7 +8,7 @@ ghost use Rattle.fd_site.specs.FileJournal.{IsBegunFile, IsFileJournal};
 ghost use Rattle.fd_site.specs.Name.{is_good_name};
 ghost use Rattle.fd_site.specs.Seen.{Frame};
 ghost use Rattle.fd_imgfile.specs.Spelling.{front_of, memory_of, spelling_of, tables_of, texts_of, u64};
-ghost use Rattle.fd_imgfile.specs.Writing.{BeginsOn, IsWrittenTo, WritesOn};
+ghost use Rattle.fd_site.specs.Writing.{BeginsOn, IsWrittenTo, WritesOn};
 
 use crate::front::{front_in, is_within_limits, spelled};
 use crate::tables::{NUMBERS, avail_page, numbers_page, segs_page};

@@ -63,6 +63,13 @@ clear_mark zero number = refl
 clear_mark (suc count) zero = refl
 clear_mark (suc count) (suc number) = clear_mark count number
 
+-- with no mark the others are all dumped pages
+pub others_unmarked : (s : Sections) (marks : List Bool) (count : ℕ) → marks ≡ replicate count false → other_pages s marks (length s.bits) ≡ dumped_pages s
+others_unmarked s marks count clear =
+    mapped_same (other_page s marks) (page_of_bit s) 0 (length s.bits) (λ bit low high.
+    ap (λ (l : List Bool). unless_marked l (set_count (take bit s.bits)) (page_of_bit s bit)) clear
+    ∙ ap (λ b. if b then None else page_of_bit s bit) (clear_mark count (set_count (take bit s.bits))))
+
 module _ (s : Sections) (pages : List Page) (marks : List Bool) (marked : AreMarked s pages (replicate (set_count s.bits) false) marks) where
   listed : Page → Bool
   listed page = not (has_page pages page.offset)

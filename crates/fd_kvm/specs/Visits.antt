@@ -46,3 +46,10 @@ pub record IsWalk {V : Type 0} (took : V → Page → Bool → V → Type 0) (ol
   pub few : length pages < 2 ^ 64
   pub fault : OnErr result (went_on ≡ true)
   pub are : Are pages went_on
+
+-- what a visitor took of these pages, where nothing else ends a walk: all, or the first ones
+pub record IsGiven {V : Type 0} (took : V → Page → Bool → V → Type 0) (old new : V) (all : List Page) : Type 0 where
+  pub pages : List Page
+  pub went_on : Bool
+  pub taken : Took took old pages went_on new
+  pub are : AreGiven pages all went_on

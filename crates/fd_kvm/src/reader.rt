@@ -7,8 +7,8 @@ ghost use Rattle.fd_site.specs.Seen.{Untouched};
 ghost use Rattle.fd_vmcore.specs.Sections.{IsOpening};
 ghost use Rattle.fd_kvm.specs.Answer.{bytes_in};
 ghost use Rattle.fd_kvm.specs.Reader.{IsRead, StandsFor, sections_of};
-ghost use Rattle.fd_kvm.specs.Visits.{AreOfWalk, IsWalk};
-ghost use Rattle.fd_kvm.specs.Walk.{walk_of};
+ghost use Rattle.fd_kvm.specs.Visits.{AreOfWalk, IsGiven, IsWalk};
+ghost use Rattle.fd_kvm.specs.Walk.{dumped_pages, walk_of};
 
 use crate::fault::ReadFault;
 use crate::page::Visit;
@@ -72,6 +72,13 @@ impl Kvm {
         })
     }
 
+    /// The sections of the file.
+    pub fn core(&self) -> &Core
+        ensures { result.now ≡ self.now.sections }
+    {
+        &self.vmcore.core
+    }
+
     /// Reads the bytes at kernel addresses from `va` on, as many as `out` has. Where an address has no byte, `out` has
     /// the bytes before the first such address, and is unchanged from there on. After a fault of the site it has any
     /// bytes. It needs no memory: a page that can't be kept for want of it is read all the same. After any answer the
@@ -111,5 +118,15 @@ impl Kvm {
         self.walked.clear_all();
         self.vmcore
             .walk(&mut self.pages, &mut self.walked, site, visit)
+    }
+
+    /// Gives a visitor all dumped pages by rising bit, so by rising address, each as a page that no entry maps; up to and with
+    /// the first after which it wants no more. The file isn't read.
+    pub fn dumped_pages<V: Visit>(&mut self, visit: &mut V)
+        ensures given { IsGiven V.took visit.old visit.new (dumped_pages self.old.sections) }
+        ensures same { self.new ≡ self.old }
+    {
+        self.walked.clear_all();
+        self.vmcore.walk_others(&self.walked, visit);
     }
 }

@@ -159,7 +159,7 @@ impl Vmcore {
     }
 
     // Gives the dumped pages that aren't marked, by rising bit.
-    fn walk_others<V: Visit>(&self, walked: &Bitmap, visit: &mut V) -> bool
+    pub(crate) fn walk_others<V: Visit>(&self, walked: &Bitmap, visit: &mut V) -> bool
         ensures taken { IsTaken V.took visit.old visit.new result
             (λ pages. AreGiven pages (other_pages self.now.sections walked.now (length self.now.sections.bits)) result) }
         ensures few { length self.now.sections.bits < 2 ^ 40 }

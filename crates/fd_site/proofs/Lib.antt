@@ -4,4 +4,5 @@ mod Examples
 pub mod FileJournals
 pub mod OnFile
 pub mod Told
+pub mod Writing
 pub mod Written

@@ -7,3 +7,4 @@ pub mod Journal
 pub mod Name
 pub mod Seen
 pub mod Trace
+pub mod Writing

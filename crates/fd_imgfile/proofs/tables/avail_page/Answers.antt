@@ -1,7 +1,7 @@
 -- One more pair is put.
 use Rattle.std.proofs.Common.{◌≡◌, ◌++◌, ℕ, List, get_or, sym, ◌∙◌, append_assoc, arith}
 use Rattle.fd_imgfile.specs.Spelling.{avail_bytes, u64}
-use Rattle.fd_imgfile.proofs.Writing.{items_more}
+use Rattle.fd_site.proofs.Writing.{items_more}
 use Rattle.fd_imgfile.proofs.tables.avail_page.Goals as goal
 
 pub loop-pair-preserved : goal.loop-pair-preserved

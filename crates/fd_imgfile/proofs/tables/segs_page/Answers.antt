@@ -2,7 +2,7 @@
 use Rattle.std.proofs.Common.{◌≡◌, ◌++◌, ℕ, List, length, sym, ◌∙◌, append_assoc, arith}
 use Rattle.fd_image.specs.declared.parts.Seg.{Seg}
 use Rattle.fd_imgfile.specs.Spelling.{seg_bytes, u64}
-use Rattle.fd_imgfile.proofs.Writing.{items_more}
+use Rattle.fd_site.proofs.Writing.{items_more}
 use Rattle.fd_imgfile.proofs.tables.segs_page.Goals as goal
 
 pub loop-seg-preserved : goal.loop-seg-preserved

@@ -2,8 +2,8 @@
 use Rattle.std.proofs.Common.{◌≡◌, ◌+◌, ◌++◌, ℕ, List, take, drop, slice_range, subst, sym, ◌∙◌, ap, arith}
 use Rattle.std.proofs.Math.Seq.{take-add}
 use Rattle.std.proofs.lemmas.List.{length-take-le, take-append-drop}
-use Rattle.fd_imgfile.specs.Writing.{BeginsOn, WritesOn}
-use Rattle.fd_imgfile.proofs.Writing.{begins_piece, begins_then, is_there, on_err, writes_piece, writes_then, written_to}
+use Rattle.fd_site.specs.Writing.{BeginsOn, WritesOn}
+use Rattle.fd_site.proofs.Writing.{begins_piece, begins_then, is_there, on_err, writes_piece, writes_then, written_to}
 use Rattle.fd_imgfile.proofs.write.write_bytes.Goals as goal
 
 pub write_file-requires-clause-there : goal.write_file-requires-clause-there

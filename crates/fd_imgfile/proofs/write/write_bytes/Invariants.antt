@@ -1,7 +1,7 @@
 -- The bytes so far were written.
 use Rattle.std.proofs.Common.{◌-◌, ◌≤◌, length, take}
 use Rattle.fd_site.specs.Seen.{Frame}
-use Rattle.fd_imgfile.specs.Writing.{WritesOn}
+use Rattle.fd_site.specs.Writing.{WritesOn}
 use Rattle.fd_imgfile.proofs.write.write_bytes.Given as goal
 
 abbrev pub invariant-loop-done : goal.invariant-loop-done

@@ -7,9 +7,9 @@ use Rattle.fd_image.specs.declared.parts.Seg.{Seg}
 use Rattle.fd_image.specs.declared.parts.Texts.{Texts}
 use Rattle.fd_imgfile.specs.Front.{IsWithinLimits, front_in}
 use Rattle.fd_imgfile.specs.Spelling.{avail_bytes, front_of, memory_of, seg_bytes, spelling_of, tables_of, texts_of, u64}
-use Rattle.fd_imgfile.specs.Writing.{BeginsOn, WritesOn}
+use Rattle.fd_site.specs.Writing.{BeginsOn, WritesOn}
 use Rattle.fd_imgfile.proofs.Unfaulted.{eights, memory_length, sixteens}
-use Rattle.fd_imgfile.proofs.Writing.{begins_first, begins_then, if_ok, on_err, when_err, when_ok, writes_then, written_to}
+use Rattle.fd_site.proofs.Writing.{begins_first, begins_then, if_ok, on_err, when_err, when_ok, writes_then, written_to}
 use Rattle.fd_imgfile.proofs.write.write_contents.Goals as goal
 
 -- what stands before the texts

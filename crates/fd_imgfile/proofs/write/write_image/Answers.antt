@@ -5,7 +5,7 @@ use Rattle.fd_site.specs.Contents.{Adds}
 use Rattle.fd_site.specs.FileJournal.{IsBegunFile}
 use Rattle.fd_site.proofs.FileJournals.{adds_begun_at_create, adds_begun_at_sync, adds_synced, adds_written_nothing, told_there}
 use Rattle.fd_imgfile.specs.Spelling.{spelling_of}
-use Rattle.fd_imgfile.proofs.Writing.{on_err}
+use Rattle.fd_site.proofs.Writing.{on_err}
 use Rattle.fd_imgfile.proofs.write.write_image.Goals as goal
 
 pub write_contents-requires-clause-made : goal.write_contents-requires-clause-made

@@ -2,7 +2,7 @@
 use Rattle.std.proofs.Common.{◌≡◌, ◌<◌, ℕ, List, [], Bor, length, take, get_or, ◌∙◌, arith}
 use Rattle.std.proofs.lemmas.List.{get_or_default}
 use Rattle.std.specs.List.{flat_map}
-use Rattle.fd_imgfile.proofs.Writing.{item_begun, item_ends, item_fits, item_written, on_err, written_to}
+use Rattle.fd_site.proofs.Writing.{item_begun, item_ends, item_fits, item_written, on_err, written_to}
 use Rattle.fd_imgfile.proofs.write.write_parts.Goals as goal
 
 -- what a part is written as, and the one that there is at a place

@@ -3,8 +3,8 @@ use Rattle.std.proofs.Common.{◌≡◌, ◌+◌, ℕ, List, length, take, subst
 use Rattle.std.specs.List.{flat_map}
 use Rattle.fd_image.specs.declared.parts.Seg.{Seg}
 use Rattle.fd_image.proofs.Slices.{slice-all}
-use Rattle.fd_imgfile.specs.Writing.{BeginsOn, WritesOn}
-use Rattle.fd_imgfile.proofs.Writing.{item_begun, item_ends, item_fits, item_written, on_err, written_to}
+use Rattle.fd_site.specs.Writing.{BeginsOn, WritesOn}
+use Rattle.fd_site.proofs.Writing.{item_begun, item_ends, item_fits, item_written, on_err, written_to}
 use Rattle.fd_imgfile.proofs.write.write_segments.Goals as goal
 
 abbrev bytes_of : Seg → List ℕ

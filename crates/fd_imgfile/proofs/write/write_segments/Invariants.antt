@@ -2,7 +2,7 @@
 use Rattle.std.proofs.Common.{◌≡◌, ◌+◌, length, take}
 use Rattle.std.specs.List.{flat_map}
 use Rattle.fd_site.specs.Seen.{Frame}
-use Rattle.fd_imgfile.specs.Writing.{WritesOn}
+use Rattle.fd_site.specs.Writing.{WritesOn}
 use Rattle.fd_imgfile.proofs.write.write_segments.Given as goal
 
 abbrev pub invariant-loop-seg : goal.invariant-loop-seg

@@ -5,9 +5,9 @@ use Rattle.std.specs.List.{flat_map}
 use Rattle.fd_image.specs.Image.{MachineImage}
 use Rattle.fd_imgfile.specs.Front.{fields_of}
 use Rattle.fd_imgfile.specs.Spelling.{avail_bytes, front_of, seg_bytes, tables_of, u64}
-use Rattle.fd_imgfile.specs.Writing.{BeginsOn, WritesOn}
+use Rattle.fd_site.specs.Writing.{BeginsOn, WritesOn}
 use Rattle.fd_imgfile.proofs.Unfaulted.{eights, sixteens}
-use Rattle.fd_imgfile.proofs.Writing.{begins_first, begins_then, if_ok, on_err, when_err, when_ok, writes_then, written_to}
+use Rattle.fd_site.proofs.Writing.{begins_first, begins_then, if_ok, on_err, when_err, when_ok, writes_then, written_to}
 use Rattle.fd_imgfile.proofs.write.write_tables.Goals as goal
 
 -- what stands before the wanted pages

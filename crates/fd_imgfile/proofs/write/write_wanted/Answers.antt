@@ -6,9 +6,9 @@ use Rattle.std.proofs.lemmas.List.Concat.{flat_map-append}
 use Rattle.std.proofs.lemmas.List.Edits.{length-between}
 use Rattle.std.specs.List.{flat_map}
 use Rattle.fd_imgfile.specs.Spelling.{u64}
-use Rattle.fd_imgfile.specs.Writing.{BeginsOn, WritesOn}
+use Rattle.fd_site.specs.Writing.{BeginsOn, WritesOn}
 use Rattle.fd_imgfile.proofs.Unfaulted.{eights}
-use Rattle.fd_imgfile.proofs.Writing.{begins_first, begins_then, items_split, on_err, writes_then, written_to}
+use Rattle.fd_site.proofs.Writing.{begins_first, begins_then, items_split, on_err, writes_then, written_to}
 use Rattle.fd_imgfile.proofs.write.write_wanted.Goals as goal
 
 -- the first numbers take eight bytes each

@@ -3,7 +3,7 @@ use Rattle.std.proofs.Common.{◌≡◌, ◌+◌, ◌-◌, ◌*◌, ◌≤◌, l
 use Rattle.std.specs.List.{flat_map}
 use Rattle.fd_site.specs.Seen.{Frame}
 use Rattle.fd_imgfile.specs.Spelling.{u64}
-use Rattle.fd_imgfile.specs.Writing.{WritesOn}
+use Rattle.fd_site.specs.Writing.{WritesOn}
 use Rattle.fd_imgfile.proofs.write.write_wanted.Given as goal
 
 abbrev pub invariant-loop-done : goal.invariant-loop-done

@@ -8,8 +8,11 @@ use Rattle.fd_site.specs.Contents.{Adds, Contents, IsFailedFile, Told, file_of, 
 use Rattle.fd_site.specs.FileJournal.{IsBegunFile, IsWrittenFile}
 use Rattle.fd_site.specs.Journal.{Write}
 use Rattle.fd_site.proofs.FileJournals.{adds_begun_at_write, adds_written_more, told_there}
-use Rattle.fd_imgfile.proofs.Pairs.{flat_map_push}
-use Rattle.fd_imgfile.specs.Writing.{BeginsOn, IsWrittenTo, WritesOn}
+use Rattle.fd_site.specs.Writing.{BeginsOn, IsWrittenTo, WritesOn}
+
+-- One more item.
+pub flat_map_push : {X : Type 0} (f : X → List ℕ) (xs : List X) (x : X) (done : List ℕ) → flat_map f xs ≡ done → flat_map f (xs ++ x ∷ []) ≡ done ++ f x
+flat_map_push f xs x done is = flat_map-append f xs (x ∷ []) ∙ (ap (λ (l : List ℕ). flat_map f xs ++ l) (append-nil (f x)) ∙ ap (λ (l : List ℕ). l ++ f x) is)
 
 pub on_err : {T E P : Type 0} (r : Result T E) → P → OnErr r P
 on_err (Ok x) p = tt
