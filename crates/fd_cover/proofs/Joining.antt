@@ -10,12 +10,29 @@ use Rattle.fd_cover.proofs.Adding.{has-apart, has-with_interval, rising-drop, ri
 suc-at : (at : ℕ) → suc at ≡ at + 1
 suc-at at = omega arith
 
--- an interval is joined with those from a place on, as far as they were taken out
-pub record IsJoined (rs : List Interval) (at : ℕ) (joint : Interval) (front whole : List Interval) : Type 0 where
-  pub inside : at ≤ length rs
-  pub before : take at rs ≡ front
-  pub rising : AreRising joint.from (drop at rs)
-  pub same : with_interval (drop at rs) joint.from joint.to ≡ whole
+-- an interval is joined with those from a place on, as far as a second one
+pub record IsJoined (rs : List Interval) (at end : ℕ) (joint : Interval) (whole : List Interval) : Type 0 where
+  pub past : at ≤ end
+  pub inside : end ≤ length rs
+  pub rising : AreRising joint.from (drop end rs)
+  pub same : with_interval (drop end rs) joint.from joint.to ≡ whole
+
+-- the next one, which it meets, is joined with it too
+pub joined_more : (rs : List Interval) (at end : ℕ) (joint d : Interval) (whole : List Interval) → IsJoined rs at end joint whole → end < length rs → (get_or rs end d).from ≤ joint.to
+    → IsJoined rs at (end + 1) (record { from = min joint.from (get_or rs end d).from; to = max joint.to (get_or rs end d).to }) whole
+joined_more rs at end joint d whole joined inside meets =
+    let next : Interval = get_or rs end d in
+    let more = drop_more rs end d inside in
+    let rises : AreRising joint.from (next ∷ drop (end + 1) rs) = subst (AreRising joint.from) more joined.rising in
+    record {
+      past = let le = joined.past in omega arith;
+      inside = omega arith;
+      rising = rising-less (drop (end + 1) rs) (next.to + 1) (min joint.from next.from) (omega (arith, rises.1)) rises.2;
+      same =
+          sym (with_interval-meets next (drop (end + 1) rs) joint.from joint.to meets (omega (arith, rises.0, rises.1)))
+          ∙ ap (λ l. with_interval l joint.from joint.to) (sym more)
+          ∙ joined.same;
+    }
 
 -- what lies behind one of rising intervals
 pub rising_behind : (rs : List Interval) (at : ℕ) (d : Interval) (f : ℕ) → AreRising 0 rs → at < length rs → AreRising (min f (get_or rs at d).from) (drop (at + 1) rs)

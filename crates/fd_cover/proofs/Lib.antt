@@ -1,3 +1,4 @@
 pub mod Adding
 mod Joining
+mod Searching
 mod Wholes

@@ -32,20 +32,17 @@ pub(crate) fn add_interval(intervals: &mut Vec<Interval>, new: Interval) -> Resu
     Ok(())
 }
 
-// The place of the first interval that doesn't end before a number, or of none.
+// The place of the first interval that doesn't end before a number, or of none, searched by halves.
 fn first_reaching(intervals: &[Interval], from: u64) -> usize
+    requires { AreRising 0 intervals.now }
     ensures bound { result ≤ length intervals.now }
     ensures before { AreBefore from (take result intervals.now) }
     ensures reaches { result < length intervals.now → from ≤ (slice_index_or intervals.now result (record { from = 0; to = 0 })).to }
 {
-    let mut at = 0;
-    while at < intervals.len() && intervals[at].to < from {
-        at += 1;
-    }
-    at
+    intervals.partition_point(|interval| interval.to < from)
 }
 
-// Takes out the intervals from a place on that one meets, and answers that one joined with them.
+// Takes out the intervals from a place on that one meets, all at once, and answers that one joined with them.
 fn join_behind(intervals: &mut Vec<Interval>, at: usize, new: Interval) -> Interval
     requires inside { at ≤ length intervals.old.items }
     requires rising { AreRising new.from (drop at intervals.old.items) }
@@ -53,9 +50,12 @@ fn join_behind(intervals: &mut Vec<Interval>, at: usize, new: Interval) -> Inter
     ensures joined { result ∷ drop at intervals.new.items ≡ with_interval (drop at intervals.old.items) new.from new.to }
 {
     let mut joint = new;
-    while at < intervals.len() && intervals[at].from <= joint.to {
-        joint = joined(joint, intervals.remove(at));
+    let mut end = at;
+    while end < intervals.len() && intervals[end].from <= joint.to {
+        joint = joined(joint, intervals[end]);
+        end += 1;
     }
+    drop(intervals.drain(at..end));
     joint
 }
 
