@@ -7,6 +7,8 @@ mod claim;
 mod dir_site;
 mod directory;
 mod fault;
+#[cfg(test)]
+mod file_tests;
 mod held;
 mod lock;
 mod opened;
