@@ -3,38 +3,29 @@
 ghost use Rattle.std.specs.Prelude.{◌≡◌, None, IfOk};
 ghost use Rattle.fd_site.specs.Contents.{nothing_told};
 
+use crate::claim::{Access, Claim};
+use crate::directory::Directory;
 use crate::fault::counted;
-use crate::opened::{Opened, is_missing, len_at};
+use crate::held::Held;
+use crate::opened::{Opened, is_missing, missing};
 use crate::partition::Partition;
 use fd_site::{Failed, Site};
 use std::fs::File;
 use std::io;
-use std::io::{Error, ErrorKind};
 use std::path::PathBuf;
 use std::rt::Files;
 
-/// A directory whose file `dumpdev` is the partition. The partition stays open, and so does the file that was used last.
-/// What is only read is never opened to be written.
+/// A directory whose file `dumpdev` is the partition. The partition stays open, and so do the files that have unsynced writes
+/// and some others. What is only read is never opened to be written.
 #[derive(Drop)]
 pub struct DirSite<'a, R: Files<File = File> + Eprint + AllocGlobal> {
     rt: &'a R,
-    directory: PathBuf,
+    directory: Directory,
     dumpdev: Option<Partition>,
-    last: Option<Named>,
+    held: Held,
     size: u64,
     block: u32,
     faults: u64,
-}
-
-/// An open file, and its name in the directory.
-#[derive(Drop)]
-struct Named {
-    name: String,
-    opened: Opened,
-}
-
-fn missing() -> Error {
-    Error::new(ErrorKind::NotFound, "No such file or directory")
 }
 
 impl<'a, R: Files<File = File> + Eprint + AllocGlobal> DirSite<'a, R> {
@@ -44,8 +35,8 @@ impl<'a, R: Files<File = File> + Eprint + AllocGlobal> DirSite<'a, R> {
         ensures block { IfOk result (λ s. (⟦<DirSite<'a, R> as Site>⟧.seen s).block ≡ block) }
         ensures faults { IfOk result (λ s. (⟦<DirSite<'a, R> as Site>⟧.seen s).faults ≡ 0) }
     {
-        let directory = PathBuf::from_str(rt.alloc(), directory)?;
-        let dumpdev = directory.join(rt.alloc(), "dumpdev")?;
+        let directory = Directory::new(PathBuf::from_str(rt.alloc(), directory)?);
+        let dumpdev = directory.path_of(rt, "dumpdev")?;
         let (dumpdev, size) = match Partition::open(rt, dumpdev, block) {
             Ok(partition) => {
                 let size = partition.size;
@@ -58,61 +49,72 @@ impl<'a, R: Files<File = File> + Eprint + AllocGlobal> DirSite<'a, R> {
             rt,
             directory,
             dumpdev,
-            last: None,
+            held: Held::new(rt.alloc()),
             size,
             block,
             faults: 0,
         })
+    }
+
+    /// Keeps other programs out of what a command will do here. An error says that another one is at the partition.
+    pub fn claim(&mut self, claim: Claim) -> io::Result<()>
+        ensures { ⟦<DirSite<'a, R> as Site>⟧.seen self.new ≡ ⟦<DirSite<'a, R> as Site>⟧.seen self.old }
+    {
+        self.directory.makes_files = claim.makes_files;
+        match (&mut self.dumpdev, claim.partition) {
+            (Some(partition), Some(access)) => partition.claim(matches!(access, Access::Write)),
+            _ => Ok(()),
+        }
     }
 }
 
 // The file of this name, which is held open from now on.
 fn held<'b, R: Files<File = File> + AllocGlobal>(
     rt: &R,
-    directory: &PathBuf,
-    last: &'b mut Option<Named>,
+    directory: &Directory,
+    held: &'b mut Held,
     name: &str,
+    to_write: bool,
 ) -> io::Result<&'b mut Opened> {
-    let is_held = match last {
-        Some(held) => held.name.as_str() == name,
+    let is_held = match held.get(name) {
+        Some(file) => file.for_writing || !to_write,
         None => false,
     };
     if !is_held {
-        let opened = Opened::open(rt, directory.join(rt.alloc(), name)?)?;
-        let name = String::from_str(rt.alloc(), name)?;
-        *last = Some(Named { name, opened });
+        let path = directory.path_of(rt, name)?;
+        let opened = if to_write {
+            Opened::open_to_write(rt, &path)?
+        } else {
+            Opened::open(rt, &path)?
+        };
+        held.hold(rt.alloc(), name, opened)?;
     }
-    match last {
-        Some(held) => Ok(&mut held.opened),
-        None => Err(missing()),
-    }
+    held.get(name).ok_or_else(missing)
 }
 
 // Makes the file of this name empty, and holds it open.
 fn create<R: Files<File = File> + AllocGlobal>(
     rt: &R,
-    directory: &PathBuf,
-    last: &mut Option<Named>,
+    directory: &mut Directory,
+    held: &mut Held,
     name: &str,
 ) -> io::Result<()> {
-    let opened = Opened::create(rt, directory.join(rt.alloc(), name)?)?;
-    let name = String::from_str(rt.alloc(), name)?;
-    *last = Some(Named { name, opened });
-    Ok(())
+    // One that this program made before is no other program's.
+    held.close(name);
+    let created = directory.create(rt, name)?;
+    held.hold(rt.alloc(), name, created)
 }
 
-fn file_len<R: Files<File = File> + AllocGlobal>(
+// A partition that will be written is opened for that before the first file is made: what can't be cleared isn't saved, or
+// it would be at each start of the machine.
+fn prepare_partition<R: Files<File = File>>(
     rt: &R,
-    directory: &PathBuf,
-    name: &str,
-) -> io::Result<Option<u64>> {
-    len_at(rt, &directory.join(rt.alloc(), name)?)
-}
-
-// Syncs the file, and the directory, which has its name.
-fn sync<R: Files<File = File>>(rt: &R, directory: &PathBuf, file: &Opened) -> io::Result<()> {
-    file.sync()?;
-    File::open(rt, directory)?.sync_all()
+    dumpdev: &mut Option<Partition>,
+) -> io::Result<()> {
+    match dumpdev {
+        Some(partition) => partition.prepare(rt),
+        None => Ok(()),
+    }
 }
 
 // After an error of this call and of the next one nothing is known of what the disk has, and the partition is let go.
@@ -165,12 +167,12 @@ impl<'a, R: Files<File = File> + Eprint + AllocGlobal> Site for DirSite<'a, R> {
     }
 
     fn file_len(&mut self, name: &str) -> Result<Option<u64>, Failed> {
-        let len = file_len(self.rt, &self.directory, name);
+        let len = self.directory.len_of(self.rt, name);
         counted(self.rt, name, &mut self.faults, len)
     }
 
     fn read_file(&mut self, name: &str, at: u64, out: &mut [u8]) -> Result<(), Failed> {
-        let read = match held(self.rt, &self.directory, &mut self.last, name) {
+        let read = match held(self.rt, &self.directory, &mut self.held, name, false) {
             Ok(file) => file.read_at(out, at),
             Err(why) => Err(why),
         };
@@ -178,21 +180,23 @@ impl<'a, R: Files<File = File> + Eprint + AllocGlobal> Site for DirSite<'a, R> {
     }
 
     fn create(&mut self, name: &str) -> Result<(), Failed> {
-        let created = create(self.rt, &self.directory, &mut self.last, name);
+        let prepared = prepare_partition(self.rt, &mut self.dumpdev);
+        counted(self.rt, "dumpdev", &mut self.faults, prepared)?;
+        let created = create(self.rt, &mut self.directory, &mut self.held, name);
         counted(self.rt, name, &mut self.faults, created)
     }
 
     fn write_file(&mut self, name: &str, at: u64, bytes: &[u8]) -> Result<(), Failed> {
-        let written = match held(self.rt, &self.directory, &mut self.last, name) {
-            Ok(file) => file.write_at(self.rt, bytes, at),
+        let written = match held(self.rt, &self.directory, &mut self.held, name, true) {
+            Ok(file) => file.write_at(bytes, at),
             Err(why) => Err(why),
         };
         counted(self.rt, name, &mut self.faults, written)
     }
 
     fn sync_file(&mut self, name: &str) -> Result<(), Failed> {
-        let synced = match held(self.rt, &self.directory, &mut self.last, name) {
-            Ok(file) => sync(self.rt, &self.directory, file),
+        let synced = match held(self.rt, &self.directory, &mut self.held, name, false) {
+            Ok(file) => self.directory.sync(self.rt, file),
             Err(why) => Err(why),
         };
         counted(self.rt, name, &mut self.faults, synced)

@@ -3,8 +3,14 @@
 //! trusted edge of the program. Beside them stands what has to be done before anything is opened.
 #![tactic(auto)]
 
+mod claim;
 mod dir_site;
+mod directory;
 mod fault;
+#[cfg(test)]
+mod file_tests;
+mod held;
+mod lock;
 mod opened;
 mod partition;
 mod standard;
@@ -15,6 +21,7 @@ mod udp;
 mod udp_link;
 mod udp_ports;
 
+pub use claim::{Access, Claim};
 pub use dir_site::DirSite;
 pub use fault::say;
 pub use standard::hold_standard;

@@ -3,7 +3,7 @@
 //! 71 and 74 a line on standard error says why.
 #![tactic(auto)]
 
-ghost use Rattle.std.specs.Prelude.{◌≡◌, ◌≢◌};
+ghost use Rattle.std.specs.Prelude.{◌≡◌, ◌≢◌, IfOk};
 ghost use Rattle.std.specs.Process.{exit_status};
 ghost use Rattle.std.specs.IoError.{error_kind};
 ghost use Rattle.fd_words.specs.Command.{command_of};
@@ -12,8 +12,9 @@ ghost use Rattle.fd_cli.specs.Row.{Reach, outside};
 ghost use Rattle.fd_cli.specs.Rows.{no_command_row, row_of};
 
 use fd_cli::{Invocation, Refusal, crashway, read_invocation, status};
-use fd_os::{DirSite, StdSink, UdpLink, UdpPorts, hold_standard, say};
+use fd_os::{Access, Claim, DirSite, StdSink, UdpLink, UdpPorts, hold_standard, say};
 use fd_site::{Link, Ports, Sink, Site};
+use fd_words::{Command, read_command};
 use std::alloc::Global;
 use std::fs::File;
 use std::io::ErrorKind;
@@ -80,13 +81,43 @@ fn work<S: Site, L: Link, P: Ports, O: Sink>(
     crashway(alloc, &invocation.words, site, link, ports, out)
 }
 
+// What a command does in the directory.
+fn claim_of(command: &Command) -> Claim {
+    let (partition, makes_files) = match command {
+        Command::Judge { .. } => (Some(Access::Read), false),
+        Command::Save { keep: true, .. } => (Some(Access::Read), true),
+        Command::Save { .. } | Command::Drill { .. } => (Some(Access::Write), true),
+        Command::Clear { .. } | Command::Dump { .. } => (Some(Access::Write), false),
+        Command::Image { .. } | Command::Netdumpd { .. } => (None, true),
+        Command::Netdump { .. } | Command::Read { .. } | Command::Pages { .. } => (None, false),
+    };
+    Claim {
+        partition,
+        makes_files,
+    }
+}
+
+// The invocation's directory, from which other programs are kept as its command needs it.
+fn open_directory<'a, R: Files<File = File> + Eprint + AllocGlobal>(
+    rt: &'a R,
+    invocation: &Invocation,
+) -> io::Result<DirSite<'a, R>>
+    ensures { IfOk result (λ s. (⟦<DirSite<'a, R> as Site>⟧.seen s).block ≡ invocation.now.block) }
+{
+    let mut site = DirSite::open(rt, invocation.directory.as_str(), invocation.block)?;
+    if let Some(command) = read_command(rt.alloc(), &invocation.words)? {
+        site.claim(claim_of(&command))?;
+    }
+    Ok(site)
+}
+
 // The same over the invocation's directory.
 fn work_in_directory<R: Files<File = File> + Net + Clock + Eprint + AllocGlobal, O: Sink>(
     rt: &R,
     invocation: &Invocation,
     out: &mut O,
 ) -> u8 {
-    let mut site = match DirSite::open(rt, invocation.directory.as_str(), invocation.block) {
+    let mut site = match open_directory(rt, invocation) {
         Ok(site) => site,
         Err(why) => return early_status(rt, "dumpdev", why),
     };
