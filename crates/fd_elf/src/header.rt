@@ -89,8 +89,8 @@ fn is_one_of(number: u16, types: &[FileType]) -> bool
     types.iter().any(|t| t.number() == number)
 }
 
-// The place of the first field that isn't taken.
-fn first_refused(fields: &[HeaderField]) -> Option<u64>
+/// The place of the first of these fields that isn't taken, or None where all are.
+pub fn first_refused(fields: &[HeaderField]) -> Option<u64>
     ensures { result ≡ first_refused fields.now }
 {
     fields

@@ -1,0 +1,4 @@
+mod Names
+mod Openings
+pub mod Refused
+mod Rest

@@ -1,0 +1,5 @@
+pub mod Header
+pub mod Opening
+pub mod Parts
+pub mod Sections
+pub mod Symbols
