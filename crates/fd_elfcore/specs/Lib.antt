@@ -1,0 +1,5 @@
+pub mod Elf
+pub mod ElfAnswer
+pub mod ElfParts
+pub mod Layout
+pub mod Opening
