@@ -13,7 +13,7 @@ mod machine;
 pub use field::{get_u16_le, put_u16_le};
 pub use file_type::FileType;
 pub use header::{
-    EV_CURRENT, HEADER_SIZE, HeaderField, PROGRAM_HEADER_SIZE, SECTION_HEADER_SIZE,
-    first_refused, ident, refused_place,
+    EV_CURRENT, HEADER_SIZE, HeaderField, PROGRAM_HEADER_SIZE, SECTION_HEADER_SIZE, first_refused,
+    ident, refused_place,
 };
 pub use machine::{arch_of_machine, each_machine_is_read_back};
